@@ -1,0 +1,58 @@
+//! The flat rules: which lists of entries are the flat form of a sheet that keeps the limits. They are judged once, here,
+//! for every make of entry.
+ghost use mathlib.Core.Path.{_≡_};
+ghost use mathlib.Core.Bool.{false};
+ghost use mathlib.Core.List.{[]};
+ghost use lib.ListN.{length};
+ghost use Rattle.rules.specs.Rules.{verdict, walk, judge as judged};
+ghost use Rattle.rules.specs.Verdicts.{One-lawful-sheet, Some-lawful-sheet};
+ghost use Rattle.rules.specs.declared.look.Verdict.the-variants.{Lawful as lawful-verdict};
+
+mod entries;
+mod look;
+mod step;
+mod walk;
+
+pub use entries::Entries;
+pub use look::Look;
+pub use look::Verdict;
+pub use step::is_legal_mark;
+use walk::Next;
+use walk::Walk;
+
+/// More entries than this are no sheet.
+pub const MOST: usize = 65535;
+
+/// Judges entries from place 0 upward. What is judged lawful is the flat form of exactly one sheet that keeps the limits, and
+/// the flat form of every such sheet is judged lawful.
+pub fn judge<E: Entries>(entries: &E) -> Verdict
+    ensures is { λ r. ⌜ r ≡ verdict (E·Entries .listed (now (entries .entry))) ⌝ }
+    ensures means { λ r. ⌜ (r ≡ lawful-verdict → One-lawful-sheet (E·Entries .listed (now (entries .entry)))) ⌝ }
+    ensures every { λ r. ⌜ (Some-lawful-sheet (E·Entries .listed (now (entries .entry))) → r ≡ lawful-verdict) ⌝ }
+{
+    let count = entries.len();
+    if count > MOST {
+        return Verdict::Offends { place: 0 };
+    }
+    walked(entries, count)
+}
+
+/// The walk over all entries, from the first to the last End.
+fn walked<E: Entries>(entries: &E, count: usize) -> Verdict
+    requires { ⌜ count ≡ length (E·Entries .listed (now entries)) ⌝ }
+    ensures { λ r. ⌜ r ≡ judged (walk false []) 0 (E·Entries .listed (now (entries .entry))) ⌝ }
+{
+    let mut walk = Walk::new();
+    for place in 0..count {
+        match walk.step(place, entries.look(place)) {
+            Next::On => {}
+            Next::Done => {
+                return if place + 1 == count { Verdict::Lawful } else { Verdict::Offends { place } };
+            }
+            Next::Bad => {
+                return Verdict::Offends { place };
+            }
+        }
+    }
+    Verdict::Offends { place: count }
+}

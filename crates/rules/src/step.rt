@@ -1,0 +1,101 @@
+ghost use mathlib.Core.Path.{_≡_};
+ghost use mathlib.Core.Bool.{false};
+ghost use mathlib.Core.List.{[]};
+ghost use Rattle.sheet.specs.Limits.{legal-mark};
+ghost use Rattle.rules.specs.Rules.{walk, step as rule, close as closing-rule, matches};
+ghost use Rattle.rules.specs.Walks.{walk-of, next-of};
+use crate::look::Look;
+use crate::walk::DEEPEST;
+use crate::walk::Next;
+use crate::walk::Open;
+use crate::walk::Walk;
+
+/// Whether a mark may have this character and this spacing. An apostrophe begins a lifetime, so it is never alone.
+pub fn is_legal_mark(character: char, spacing: u8) -> bool
+    ensures { λ r. ⌜ r ≡ legal-mark character spacing ⌝ }
+{
+    match character {
+        '=' | '<' | '>' | '!' | '~' | '+' | '-' | '*' | '/' | '%' | '^' | '&' | '|' | '@' | '.' | ',' | ';' | ':' | '#'
+        | '$' | '?' => spacing <= 1,
+        '\'' => spacing == 1,
+        _ => false,
+    }
+}
+
+fn is_matching(at: usize, distance: usize, group: Open) -> bool
+    ensures { λ r. ⌜ r ≡ matches at distance group ⌝ }
+{
+    distance == group.claims && group.from <= at && at - group.from == distance
+}
+
+impl Walk {
+    pub(crate) fn new() -> Walk
+        ensures { λ r. ⌜ walk-of r ≡ walk false [] ⌝ }
+    {
+        Walk {
+            waiting: false,
+            depth: 0,
+            groups: [Open { from: 0, claims: 0 }; 60],
+        }
+    }
+
+    /// Takes the entry at a place.
+    pub(crate) fn step(&mut self, at: usize, look: Look) -> Next
+        ensures { λ r. ⌜ next-of r (walk-of (now (self .exit))) ≡ rule (walk-of (now (self .entry))) at look ⌝ }
+    {
+        match look {
+            Look::Group { delimiter, distance } => {
+                if self.waiting || delimiter > 3 || self.depth >= DEEPEST {
+                    return Next::Bad;
+                }
+                self.groups[self.depth] = Open {
+                    from: at,
+                    claims: distance,
+                };
+                self.depth += 1;
+                Next::On
+            }
+            Look::Name { good } => {
+                if !good {
+                    return Next::Bad;
+                }
+                self.waiting = false;
+                Next::On
+            }
+            Look::Mark { character, spacing } => {
+                if self.waiting || !is_legal_mark(character, spacing) {
+                    return Next::Bad;
+                }
+                self.waiting = character == '\'';
+                Next::On
+            }
+            Look::Literal { good } => {
+                if self.waiting || !good {
+                    return Next::Bad;
+                }
+                Next::On
+            }
+            Look::End { distance } => {
+                if self.waiting {
+                    return Next::Bad;
+                }
+                self.close(at, distance)
+            }
+            Look::Nothing => Next::Bad,
+        }
+    }
+
+    fn close(&mut self, at: usize, distance: usize) -> Next
+        ensures { λ r. ⌜ next-of r (walk-of (now (self .exit))) ≡ closing-rule at distance (walk-of (now (self .entry)) .open-groups) ⌝ }
+    {
+        if self.depth == 0 {
+            return if distance == 0 { Next::Done } else { Next::Bad };
+        }
+        if !is_matching(at, distance, self.groups[self.depth - 1]) {
+            return Next::Bad;
+        }
+        self.waiting = false;
+        self.depth -= 1;
+        Next::On
+    }
+}

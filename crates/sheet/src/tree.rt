@@ -1,0 +1,11 @@
+use crate::kind::Delimiter;
+use crate::kind::Spacing;
+
+/// The tree that begins at a place; a group stands without its contents. Texts are borrowed from the store.
+#[derive(Clone, Copy)]
+pub enum Tree<'a> {
+    Name(&'a [u8]),
+    Literal(&'a [u8]),
+    Mark(char, Spacing),
+    Group(Delimiter),
+}
