@@ -2,7 +2,7 @@
 use mathlib.Core.Bool.{true, false, cond}
 use mathlib.Core.List.{List, [], _∷_}
 use mathlib.Core.Path.{_≡_, refl, sym, ap, _∙_}
-use Prim.Native.Nat.{ℕ, zero, suc, _+_, _≤_, _<_}
+use Prim.Native.Nat.{ℕ, suc, _+_, _≤_, _<_}
 use native.Mathlib.Numerals.{add-one}
 use native.Mathlib.Omega.{arith}
 use lib.Dec.{leb}
@@ -10,16 +10,12 @@ use lib.ListN.{length, drop, length-drop}
 use Rattle.std.proofs.shelf.Lists.{drop-all}
 use Rattle.std.proofs.shelf.Ways.{tells}
 use Rattle.sheet.specs.Entries.{Entry, at}
+use Rattle.sheet.proofs.Places.{drop-at}
 use Rattle.rules.specs.Looks.{look-of}
 use Rattle.rules.specs.Rules.{Walk, walk, Next, on, done, bad, step, after, judge, verdict}
 use Rattle.rules.specs.declared.look.Look.{Look}
 use Rattle.rules.specs.declared.look.Verdict.{Verdict}
 use Rattle.rules.specs.declared.look.Verdict.the-variants.{Lawful, Offends}
-
-pub drop-at : {St : Type 0} (es : List (Entry St)) (p : ℕ) → p < length es → drop p es ≡ at es p ∷ drop (suc p) es
-drop-at [] p h = absurd (omega arith)
-drop-at (e ∷ es) zero h = refl
-drop-at (e ∷ es) (suc p) h = drop-at es p (omega arith)
 
 -- Judging the entries es comes to judging, from w on, those that are left at place p.
 abbrev pub So-far : {St : Type 0} → List (Entry St) → Walk → ℕ → Type 0

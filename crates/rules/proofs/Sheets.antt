@@ -1,6 +1,7 @@
 -- Lawful entries and sheets that keep the limits are the same thing.
 use mathlib.Core.Bool.{Bool, true, false, not, _&&_, cond}
 use mathlib.Core.List.{List, [], _∷_}
+use mathlib.Core.Logic.{_⊎_, inl, inr, ⊎-elim}
 use mathlib.Core.Path.{_≡_, refl, sym, ap, _∙_, subst}
 use Prim.Native.Nat.{ℕ, zero, suc, _+_, _≤_, _<_}
 use native.Mathlib.Omega.{arith}
@@ -10,11 +11,12 @@ use lib.ListN.{length}
 use Rattle.std.proofs.shelf.Tests.{and-parts, and-from}
 use Rattle.std.proofs.shelf.Ways.{decides-eqb, tells}
 use Rattle.sheet.specs.Trees.{Trees, nil, name, mark, literal, group, size, depth}
-use Rattle.sheet.specs.Entries.{Entry, Group, Name, Mark, Literal, End, Nothing, flat, entries, tree}
+use Rattle.sheet.specs.Entries.{Entry, Group, Name, Mark, Literal, End, Nothing, flat, entries, tree, at}
 use Rattle.sheet.specs.Limits.{legal-mark, legal-text, apostrophe, Starts-with-name, Sound, Keeps-limits}
 use Rattle.sheet.proofs.Forms.{own-sheet}
+use Rattle.sheet.proofs.Places.{at-past}
 use Rattle.rules.specs.Looks.{look-of}
-use Rattle.rules.specs.Rules.{Walk, walk, Next, on, done, bad, matches, close, step, after, judge, verdict}
+use Rattle.rules.specs.Rules.{Walk, walk, Next, on, done, bad, matches, close, step, after, judge, verdict, is-lawful}
 use Rattle.rules.specs.Verdicts.{One-lawful-sheet, Some-lawful-sheet}
 use Rattle.rules.specs.declared.look.Verdict.{Verdict}
 use Rattle.rules.specs.declared.look.Verdict.the-variants.{Lawful, Offends}
@@ -217,3 +219,32 @@ every-lawful-sheet es (t, k, e) =
     let few : leb (length es) 65535 ≡ true = let l = ap length e in let f = k .few in grind (arith, tells) in
     let passed = judge-flat t false 0 [] (End 0 ∷ []) (record { names = nobody; sound = k .sound; shallow = omega (arith, k .shallow) }) in
     ap (λ x. cond x (judge (walk false []) 0 es) (Offends 0)) few ∙ ap (judge (walk false []) 0) (sym e) ∙ passed
+
+-- What is judged lawful has lawful marks only.
+
+is-so : (v : Verdict) → is-lawful v ≡ true → v ≡ Lawful
+is-so Lawful h = refl
+is-so (Offends p) h = nobody h
+
+pub lawful-verdict : {St : Type 0} (es : List (Entry St)) → is-lawful (verdict es) ≡ true → verdict es ≡ Lawful
+lawful-verdict es h = is-so (verdict es) h
+
+goes : {St : Type 0} (n : Next) (p : ℕ) (es : List (Entry St)) → after n p es (λ v. judge v (suc p) es) ≡ Lawful → (es ≡ []) ⊎ ((v : Walk) × (judge v (suc p) es ≡ Lawful))
+goes (on v) p es h = inr (v, h)
+goes done p [] h = inl refl
+goes done p (e ∷ es) h = let z : _≡_ {A = ℕ} 0 1 = cc in absurd (omega arith)
+goes bad p es h = let z : _≡_ {A = ℕ} 0 1 = cc in absurd (omega arith)
+
+each-mark : {St : Type 0} (w : Walk) (p : ℕ) (es : List (Entry St)) (k c s : ℕ) (x : St) → judge w p es ≡ Lawful → at es k ≡ Mark c s x → legal-mark c s ≡ true
+each-mark w p [] k c s x h e = let z : _≡_ {A = ℕ} 0 1 = cc in absurd (omega arith)
+each-mark w p (e ∷ es) zero c s x h is =
+    let f : judge w p (Mark c s x ∷ es) ≡ Lawful = ap (λ m. judge w p (m ∷ es)) (sym is) ∙ h in
+    and-parts (not (w .waiting)) _ (passes _ _ p es _ f .0) .1
+each-mark w p (e ∷ es) (suc k) c s x h is =
+    ⊎-elim
+    (λ none. let f : at [] k ≡ Mark c s x = ap (λ l. at l k) (sym none) ∙ is in let y = sym (at-past [] k (omega arith)) ∙ f in let z : _≡_ {A = ℕ} 0 1 = cc in absurd (omega arith))
+    (λ v. each-mark (v .0) (suc p) es k c s x (v .1) is)
+    (goes (step w p (look-of e)) p es h)
+
+pub mark-legal : {St : Type 0} (es : List (Entry St)) (k c s : ℕ) (x : St) → verdict es ≡ Lawful → at es k ≡ Mark c s x → legal-mark c s ≡ true
+mark-legal es k c s x h is = each-mark (walk false []) 0 es k c s x (is-judged (leb (length es) 65535) _ h .1) is

@@ -59,3 +59,7 @@ judge w p (e ∷ es) = after (step w p (look-of e)) p es (λ v. judge v (suc p) 
 -- The verdict over all entries: there are at most 65,535.
 abbrev pub verdict : {St : Type 0} → List (Entry St) → Verdict
 verdict es = cond (leb (length es) 65535) (judge (walk false []) 0 es) (Offends 0)
+
+abbrev pub is-lawful : Verdict → Bool
+is-lawful Lawful = true
+is-lawful (Offends p) = false

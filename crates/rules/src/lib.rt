@@ -17,6 +17,7 @@ pub use entries::Entries;
 pub use look::Look;
 pub use look::Verdict;
 pub use step::is_legal_mark;
+pub use step::is_legal_text;
 use walk::Next;
 use walk::Walk;
 

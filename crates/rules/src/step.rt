@@ -1,7 +1,7 @@
 ghost use mathlib.Core.Path.{_≡_};
 ghost use mathlib.Core.Bool.{false};
 ghost use mathlib.Core.List.{[]};
-ghost use Rattle.sheet.specs.Limits.{legal-mark};
+ghost use Rattle.sheet.specs.Limits.{legal-mark, legal-text};
 ghost use Rattle.rules.specs.Rules.{walk, step as rule, close as closing-rule, matches};
 ghost use Rattle.rules.specs.Walks.{walk-of, next-of};
 use crate::look::Look;
@@ -20,6 +20,13 @@ pub fn is_legal_mark(character: char, spacing: u8) -> bool
         '\'' => spacing == 1,
         _ => false,
     }
+}
+
+/// Whether a name or literal may have this text: 1 to 255 bytes.
+pub fn is_legal_text(text: &[u8]) -> bool
+    ensures { λ r. ⌜ r ≡ legal-text (now (text .entry)) ⌝ }
+{
+    !text.is_empty() && text.len() <= 255
 }
 
 fn is_matching(at: usize, distance: usize, group: Open) -> bool

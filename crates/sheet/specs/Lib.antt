@@ -1,5 +1,5 @@
 pub mod Trees
-pub mod Faults
+pub mod Numbers
 pub mod Entries
 pub mod Limits
 pub mod Questions

@@ -4,34 +4,12 @@ use Prim.Native.Nat.{ℕ}
 use Rattle.std.specs.declared.option.Option.{Option}
 use Rattle.std.specs.declared.option.Option.the-variants.{Some, None}
 use Rattle.sheet.specs.Entries.{Entry, Group, Name, Mark, Literal, End, Nothing}
+use Rattle.sheet.specs.Numbers.{delimiter-number, spacing-number}
 use Rattle.sheet.specs.declared.kind.EntryKind.{EntryKind}
 use Rattle.sheet.specs.declared.kind.EntryKind.the-variants.{Group as KGroup, Name as KName, Mark as KMark, Literal as KLiteral, End as KEnd, Nothing as KNothing}
-use Rattle.sheet.specs.declared.kind.Delimiter.{Delimiter}
-use Rattle.sheet.specs.declared.kind.Delimiter.the-variants.{Invisible, Parenthesis, Brace, Bracket}
-use Rattle.sheet.specs.declared.kind.Spacing.{Spacing}
-use Rattle.sheet.specs.declared.kind.Spacing.the-variants.{Alone, Joint}
 use Rattle.sheet.specs.declared.kind.Stamps.{Stamps}
 use Rattle.sheet.specs.declared.tree.Tree.{Tree}
 use Rattle.sheet.specs.declared.tree.Tree.the-variants.{Name as TName, Literal as TLiteral, Mark as TMark, Group as TGroup}
-
--- The numbers of the code's enums.
-abbrev pub kind-number : EntryKind → ℕ
-kind-number KGroup = 0
-kind-number KName = 1
-kind-number KMark = 2
-kind-number KLiteral = 3
-kind-number KEnd = 4
-kind-number KNothing = 5
-
-abbrev pub delimiter-number : Delimiter → ℕ
-delimiter-number Invisible = 0
-delimiter-number Parenthesis = 1
-delimiter-number Brace = 2
-delimiter-number Bracket = 3
-
-abbrev pub spacing-number : Spacing → ℕ
-spacing-number Alone = 0
-spacing-number Joint = 1
 
 abbrev pub kind-of : {St : Type 0} → Entry St → EntryKind
 kind-of (Group x d w o c) = KGroup

@@ -1,5 +1,5 @@
 ghost use mathlib.Core.Path.{_≡_};
-ghost use Rattle.sheet.specs.Faults.{fault-number};
+ghost use Rattle.sheet.specs.Numbers.{fault-number};
 
 /// Why something offered as a sheet was not opened as a store.
 #[derive(Clone, Copy, PartialEq, Eq, Debug)]
