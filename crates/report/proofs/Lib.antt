@@ -1,0 +1,3 @@
+pub mod Pushes
+pub mod Spells
+pub mod Sums

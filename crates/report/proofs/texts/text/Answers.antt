@@ -1,0 +1,14 @@
+use native.Mathlib.Omega.{arith}
+use Rattle.report.proofs.Pushes.{nothing-pushed, word-pushed, all-pushed}
+use Rattle.report.proofs.texts.text.Needs as need
+
+pub loop-at-holds : need.loop-at-holds
+loop-at-holds g c = nothing-pushed (c .args .view) (g .S·Store .sheet (c .args .store .now)) _ (c .new-out .ensures .bytes)
+
+pub loop-at-again : need.loop-at-again
+loop-at-again g c =
+    let said = c .in-Continue-gap .ensures tt in
+    word-pushed (c .args .view) _ _ _ _ (c .loop-at .at) (c .loop-at .gap) _ _ (c .loop-at .inv) (omega (arith, c .count-at-end .ensures .is)) (c .word-at .ensures) (said .0) (said .1)
+
+pub returns : need.returns
+returns g c = all-pushed (c .args .view) _ _ _ (c .loop-at .at) (c .loop-at .gap) (c .loop-at .inv) (omega (arith, c .count-at-end .ensures .is))

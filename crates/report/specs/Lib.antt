@@ -1,0 +1,4 @@
+pub mod Counting
+pub mod Noting
+pub mod Spelling
+pub mod Writing
