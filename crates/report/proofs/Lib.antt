@@ -1,3 +1,4 @@
+pub mod Joins
 pub mod Pushes
 pub mod Spells
 pub mod Sums

@@ -1,4 +1,5 @@
 pub mod Counting
 pub mod Noting
+pub mod Reports
 pub mod Spelling
 pub mod Writing

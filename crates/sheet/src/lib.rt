@@ -7,10 +7,26 @@ mod store;
 mod tree;
 
 pub use fault::StoreFault;
+pub use fault::StoreFaultDebug;
+pub use fault::StoreFaultEq;
+pub use fault::StoreFaultPartialEq;
 pub use kind::Delimiter;
+pub use kind::DelimiterDebug;
+pub use kind::DelimiterEq;
+pub use kind::DelimiterPartialEq;
 pub use kind::EntryKind;
+pub use kind::EntryKindDebug;
+pub use kind::EntryKindEq;
+pub use kind::EntryKindPartialEq;
 pub use kind::Spacing;
+pub use kind::SpacingDebug;
+pub use kind::SpacingEq;
+pub use kind::SpacingPartialEq;
 pub use kind::Stamps;
+pub use kind::StampsClone;
+pub use kind::StampsDebug;
+pub use kind::StampsEq;
+pub use kind::StampsPartialEq;
 pub use store::Store;
 pub use tree::Tree;
 

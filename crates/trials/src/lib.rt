@@ -1,0 +1,9 @@
+//! Trials of the whole reader on examples. Each expected answer was worked out from the rules by hand or by a program that
+//! shares no code with the reader.
+
+#[cfg(test)]
+mod name_a;
+#[cfg(test)]
+mod nesting;
+#[cfg(test)]
+mod shown;
