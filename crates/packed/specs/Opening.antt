@@ -15,6 +15,7 @@ use Rattle.sheet.specs.Limits.{Keeps-limits}
 use Rattle.sheet.specs.declared.fault.StoreFault.{StoreFault}
 use Rattle.sheet.specs.declared.fault.StoreFault.the-variants.{Frame, Rules}
 use Rattle.rules.specs.Rules.{verdict}
+use Rattle.rules.specs.Verdicts.{First-offence}
 use Rattle.rules.specs.declared.look.Verdict.the-variants.{Offends}
 use Rattle.packed.specs.Format.{framed, listed}
 use Rattle.packed.specs.declared.packed.Packed.{Packed}
@@ -37,7 +38,7 @@ pub record Means (bs : List ℕ) (t : Trees Stamp) : Type 0 where
 -- Why the bytes mean no sheet: a broken frame before anything else, or the first place that offends against the rules.
 abbrev pub Refuses : List ℕ → StoreFault → Type 0
 Refuses bs Frame = framed bs ≡ false
-Refuses bs (Rules place) = (framed bs ≡ true) × (verdict (listed bs) ≡ Offends place)
+Refuses bs (Rules place) = (framed bs ≡ true) × (verdict (listed bs) ≡ Offends place) × First-offence (listed bs) place
 
 -- Accepted, the store holds the bytes and its sheet is what they mean; refused, they are handed back with the reason.
 abbrev pub Opens : Vec ℕ Global → Result Packed Refused → Type 0

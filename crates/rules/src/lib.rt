@@ -4,9 +4,10 @@ ghost use mathlib.Core.Path.{_≡_};
 ghost use mathlib.Core.Bool.{false};
 ghost use mathlib.Core.List.{[]};
 ghost use lib.ListN.{length};
+ghost use Prim.Native.Nat.{ℕ};
 ghost use Rattle.rules.specs.Rules.{verdict, walk, judge as judged};
-ghost use Rattle.rules.specs.Verdicts.{One-lawful-sheet, Some-lawful-sheet};
-ghost use Rattle.rules.specs.declared.look.Verdict.the-variants.{Lawful as lawful-verdict};
+ghost use Rattle.rules.specs.Verdicts.{One-lawful-sheet, Some-lawful-sheet, First-offence};
+ghost use Rattle.rules.specs.declared.look.Verdict.the-variants.{Lawful as lawful-verdict, Offends as offending};
 
 mod entries;
 mod look;
@@ -28,10 +29,11 @@ use walk::Walk;
 pub const MOST: usize = 65535;
 
 /// Judges entries from place 0 upward. What is judged lawful is the flat form of exactly one sheet that keeps the limits, and
-/// the flat form of every such sheet is judged lawful.
+/// the flat form of every such sheet is judged lawful. A place that offends is the first one.
 pub fn judge<E: Entries>(entries: &E) -> Verdict
     ensures is { λ r. ⌜ r ≡ verdict (E·Entries .listed (now (entries .entry))) ⌝ }
     ensures means { λ r. ⌜ (r ≡ lawful-verdict → One-lawful-sheet (E·Entries .listed (now (entries .entry)))) ⌝ }
+    ensures first { λ r. ⌜ ((place : ℕ) → r ≡ offending place → First-offence (E·Entries .listed (now (entries .entry))) place) ⌝ }
     ensures every { λ r. ⌜ (Some-lawful-sheet (E·Entries .listed (now (entries .entry))) → r ≡ lawful-verdict) ⌝ }
 {
     let count = entries.len();
