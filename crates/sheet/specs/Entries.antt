@@ -65,3 +65,12 @@ levels (e ∷ es) = put e (levels es)
 -- The sheet of a flat form.
 abbrev pub tree : {St : Type 0} → List (Entry St) → Trees St
 tree es = levels es .inner
+
+-- An entry without its stamps.
+abbrev pub bare-entry : {St : Type 0} → Entry St → Entry (Unit {0})
+bare-entry (Group x d w o c) = Group x d tt tt tt
+bare-entry (Name b s) = Name b tt
+bare-entry (Mark c k s) = Mark c k tt
+bare-entry (Literal b s) = Literal b tt
+bare-entry (End x) = End x
+bare-entry Nothing = Nothing

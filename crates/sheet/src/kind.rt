@@ -1,6 +1,6 @@
 //! The small closed lists of the subject, as enums; `specs/Numbers` gives their numbers.
 ghost use mathlib.Core.Path.{_≡_};
-ghost use Rattle.sheet.specs.Numbers.{delimiter-number, spacing-number};
+ghost use Rattle.sheet.specs.Numbers.{kind-number, delimiter-number, spacing-number};
 ghost use Rattle.sheet.specs.Questions.{three};
 
 /// What stands at a place of the flat form.
@@ -12,6 +12,21 @@ pub enum EntryKind {
     Literal,
     End,
     Nothing,
+}
+
+impl EntryKind {
+    pub fn number(self) -> u8
+        ensures { λ r. ⌜ r ≡ kind-number self ⌝ }
+    {
+        match self {
+            EntryKind::Group => 0,
+            EntryKind::Name => 1,
+            EntryKind::Mark => 2,
+            EntryKind::Literal => 3,
+            EntryKind::End => 4,
+            EntryKind::Nothing => 5,
+        }
+    }
 }
 
 /// The brackets of a group. An invisible group is one that nobody wrote: a template's text came in it.

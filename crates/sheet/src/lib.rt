@@ -1,8 +1,7 @@
 //! The subject: what a key sheet is, and the interface of every place where one is kept.
-ghost use Rattle.sheet.specs.Forms.{Read-back, One-sheet, Own-sheet};
-
 mod fault;
 mod kind;
+mod same;
 mod store;
 mod tree;
 
@@ -27,14 +26,6 @@ pub use kind::StampsClone;
 pub use kind::StampsDebug;
 pub use kind::StampsEq;
 pub use kind::StampsPartialEq;
+pub use same::same_sheet;
 pub use store::Store;
 pub use tree::Tree;
-
-/// A nested sheet and its flat form determine each other, whatever its stamps are. The contract is the theorem.
-pub fn forms_agree<St>() -> bool
-    ensures read_back { λ _. ⌜ Read-back St ⌝ }
-    ensures one_sheet { λ _. ⌜ One-sheet St ⌝ }
-    ensures own_sheet { λ _. ⌜ Own-sheet St ⌝ }
-{
-    true
-}

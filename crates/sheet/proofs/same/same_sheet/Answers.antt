@@ -1,0 +1,15 @@
+use mathlib.Core.Path.{ap}
+use Rattle.sheet.specs.Entries.{entries}
+use Rattle.sheet.proofs.Forms
+use Rattle.sheet.proofs.same.same_sheet.Needs as need
+
+pub returns : need.returns
+returns g c =
+    let d = c .are-same .ensures in
+    record {
+      nested = (λ e. Forms.one-sheet _ _ (d .0 e), λ h. d .1 (ap entries h));
+      flat = d;
+      read-back = Forms.read-back;
+      one-sheet = Forms.one-sheet;
+      own-sheet = Forms.own-sheet;
+    }
