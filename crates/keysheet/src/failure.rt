@@ -31,9 +31,15 @@ pub impl fmt::Display for Failure as FailureDisplay {
     fn fmt<W: fmt::Write>(&self, f: &mut fmt::Formatter<W>) -> fmt::Result {
         match self {
             Failure::NoCommand => write!(f, "no command is given: try 'keysheet help'"),
-            Failure::UnknownCommand(word) => write!(f, "there is no command '{word}': try 'keysheet help'"),
+            Failure::UnknownCommand(word) => write!(
+                f,
+                "there is no command '{word}': try 'keysheet help'"
+            ),
             Failure::NoFile => write!(f, "no file is named: 'keysheet show FILE' wants one"),
-            Failure::ExtraWord(word) => write!(f, "one word too many, '{word}': 'keysheet show FILE' wants one file"),
+            Failure::ExtraWord(word) => write!(
+                f,
+                "one word too many, '{word}': 'keysheet show FILE' wants one file"
+            ),
             Failure::Unreadable(path, error) => write!(f, "{path} cannot be read: {error}"),
             Failure::Refused(path, sentence) => write!(f, "{path}: {sentence}"),
             Failure::Output(error) => write!(f, "the report cannot be written: {error}"),

@@ -63,7 +63,10 @@ fn show_file(rt: &LibcRuntime, path: String) -> Result<(), Failure> {
     match fs::read(rt, path.as_str()) {
         Err(error) => Err(Failure::Unreadable(path, error)),
         Ok(bytes) => match Packed::open(bytes) {
-            Err(refused) => Err(Failure::Refused(path, report::explain(rt.alloc(), refused.fault)?)),
+            Err(refused) => Err(Failure::Refused(
+                path,
+                report::explain(rt.alloc(), refused.fault)?,
+            )),
             Ok(sheet) => {
                 rt.print(report::show(rt.alloc(), &sheet)?)?;
                 Ok(())

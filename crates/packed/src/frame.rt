@@ -54,5 +54,8 @@ fn are_pairs_good(bytes: &[u8]) -> bool
 pub(crate) fn is_framed(bytes: &[u8]) -> bool
     ensures { λ r. ⌜ r ≡ framed (now (bytes .entry)) ⌝ }
 {
-    bytes.len() >= 5 && bytes[0] == 1 && start_of_text(bytes) <= bytes.len() && are_pairs_good(bytes)
+    bytes.len() >= 5
+        && bytes[0] == 1
+        && start_of_text(bytes) <= bytes.len()
+        && are_pairs_good(bytes)
 }

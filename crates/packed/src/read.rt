@@ -42,7 +42,11 @@ impl Framed {
     pub(crate) fn new(bytes: Vec<u8>) -> Result<Framed, Vec<u8>>
         ensures { λ r. ⌜ Cases r (λ f. f .bytes ≡ bytes) (λ b. (framed (vec-items bytes) ≡ false) × (b ≡ bytes)) ⌝ }
     {
-        if is_framed(bytes.as_slice()) { Ok(Framed { bytes }) } else { Err(bytes) }
+        if is_framed(bytes.as_slice()) {
+            Ok(Framed { bytes })
+        } else {
+            Err(bytes)
+        }
     }
 
     pub(crate) fn count(&self) -> usize

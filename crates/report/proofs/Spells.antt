@@ -98,7 +98,7 @@ spell-flat v es (group d w o c i r) ks p q g here far =
     let inside : drop (suc p) es ≡ flat i (End (suc (size i)) ∷ flat r ks) = tail-of es p _ _ here in
     let at-end : drop m es ≡ End (suc (size i)) ∷ flat r ks = sym (drop-drop (size i) (suc p) es) ∙ ap (drop (size i)) inside ∙ drop-flat i (End (suc (size i)) ∷ flat r ks) in
     let closed : (k : Gap) → spell v es m k (End (suc (size i)) ∷ flat r ks) ≡ say k (bracket v d (closing d)) (λ l. write l (seen v r) (λ h. spell v es q h ks))
-          = λ k. ap (λ s. say k s (λ l. spell v es (suc m) l (flat r ks))) (end-is v es p m (size i) d _ w o c _ here (omega arith)) ∙ say-on (bracket v d (closing d)) k _ _ (λ l. spell-flat v es r ks (suc m) q l (tail-of es m _ _ at-end) (omega arith)) in
+    = λ k. ap (λ s. say k s (λ l. spell v es (suc m) l (flat r ks))) (end-is v es p m (size i) d _ w o c _ here (omega arith)) ∙ say-on (bracket v d (closing d)) k _ _ (λ l. spell-flat v es r ks (suc m) q l (tail-of es m _ _ at-end) (omega arith)) in
     say-on (bracket v d (opening d)) g _ _ (λ h. spell-flat v es i (End (suc (size i)) ∷ flat r ks) (suc p) m h inside refl ∙ write-on (seen v i) h _ _ closed)
     ∙ group-written v d (seen v i) (seen v r) g (λ h. spell v es q h ks)
 

@@ -29,7 +29,7 @@ with c t = record {
   names = c .names + sum-over one-name t;
   literals = c .literals + sum-over one-literal t;
   marks = c .marks + sum-over one-mark t;
-  }
+}
 
 with-more : {St : Type 0} (c : Counts) (k : Token) (r t : Trees St) → ((f : Token → ℕ) → sum-over f t ≡ f k + sum-over f r) → with (noted c k) r ≡ with c t
 with-more c k r t h =

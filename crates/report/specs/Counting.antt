@@ -60,4 +60,4 @@ counts-of t = record {
   names = sum-over one-name t;
   literals = sum-over one-literal t;
   marks = sum-over one-mark t;
-  }
+}

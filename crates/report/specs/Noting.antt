@@ -14,7 +14,7 @@ noted c t = record {
   names = c .names + one-name t;
   literals = c .literals + one-literal t;
   marks = c .marks + one-mark t;
-  }
+}
 
 -- No count is so large that one more would not fit.
 pub record Room (c : Counts) : Type 0 where

@@ -20,7 +20,10 @@ fn counts_text(heap: Global, counts: Counts) -> Result<String, AllocError>
     let names = counts.names;
     let literals = counts.literals;
     let marks = counts.marks;
-    format!(heap, "entries   {entries}\ngroups    {groups}, invisible: {invisible}\nnames     {names}\nliterals  {literals}\nmarks     {marks}")
+    format!(
+        heap,
+        "entries   {entries}\ngroups    {groups}, invisible: {invisible}\nnames     {names}\nliterals  {literals}\nmarks     {marks}"
+    )
 }
 
 /// The whole report of a sheet.
@@ -30,7 +33,10 @@ pub fn show<S: Store>(heap: Global, store: &S) -> Result<String, AllocError>
     let counts = counts_text(heap, tally(store))?;
     let filled = text(heap, store, View::Filled)?;
     let plain = text(heap, store, View::Plain)?;
-    format!(heap, "{counts}\n\nas it was filled:\n{filled}\n\nplain reading:\n{plain}\n")
+    format!(
+        heap,
+        "{counts}\n\nas it was filled:\n{filled}\n\nplain reading:\n{plain}\n"
+    )
 }
 
 /// Why a sheet was refused, in a sentence.

@@ -29,7 +29,11 @@ fn hex_digit(digit: u8) -> char
 fn push_byte(out: &mut String, byte: u8) -> Result<(), AllocError>
     ensures { λ r. ⌜ made r (λ _. string-bytes (now (out .exit)) ≡ string-bytes (now (out .entry)) ++ shown-byte byte) ⌝ }
 {
-    if byte >= 32 && byte <= 126 { out.push(char::from(byte)) } else { push_escape(out, byte) }
+    if byte >= 32 && byte <= 126 {
+        out.push(char::from(byte))
+    } else {
+        push_escape(out, byte)
+    }
 }
 
 fn push_escape(out: &mut String, byte: u8) -> Result<(), AllocError>

@@ -66,7 +66,10 @@ pub(crate) fn word_at<S: Store>(store: &S, at: usize, view: View) -> Word<'_>
     match store.token(at) {
         Some(Tree::Name(text)) => Word::Text(text),
         Some(Tree::Literal(text)) => Word::Text(text),
-        Some(Tree::Mark(character, spacing)) => Word::Sign(character, gap_after(character, spacing)),
+        Some(Tree::Mark(character, spacing)) => Word::Sign(
+            character,
+            gap_after(character, spacing),
+        ),
         Some(Tree::Group(delimiter)) => bracket(view, delimiter, opening(delimiter)),
         None => {
             let distance = store.distance(at);

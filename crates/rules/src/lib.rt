@@ -53,7 +53,11 @@ fn walked<E: Entries>(entries: &E, count: usize) -> Verdict
         match walk.step(place, entries.look(place)) {
             Next::On => {}
             Next::Done => {
-                return if place + 1 == count { Verdict::Lawful } else { Verdict::Offends { place } };
+                return if place + 1 == count {
+                    Verdict::Lawful
+                } else {
+                    Verdict::Offends { place }
+                };
             }
             Next::Bad => {
                 return Verdict::Offends { place };

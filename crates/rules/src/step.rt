@@ -15,8 +15,27 @@ pub fn is_legal_mark(character: char, spacing: u8) -> bool
     ensures { λ r. ⌜ r ≡ legal-mark character spacing ⌝ }
 {
     match character {
-        '=' | '<' | '>' | '!' | '~' | '+' | '-' | '*' | '/' | '%' | '^' | '&' | '|' | '@' | '.' | ',' | ';' | ':' | '#'
-        | '$' | '?' => spacing <= 1,
+        '='
+        | '<'
+        | '>'
+        | '!'
+        | '~'
+        | '+'
+        | '-'
+        | '*'
+        | '/'
+        | '%'
+        | '^'
+        | '&'
+        | '|'
+        | '@'
+        | '.'
+        | ','
+        | ';'
+        | ':'
+        | '#'
+        | '$'
+        | '?' => spacing <= 1,
         '\'' => spacing == 1,
         _ => false,
     }
@@ -51,7 +70,10 @@ impl Walk {
         ensures { λ r. ⌜ next-of r (walk-of (now (self .exit))) ≡ rule (walk-of (now (self .entry))) at look ⌝ }
     {
         match look {
-            Look::Group { delimiter, distance } => {
+            Look::Group {
+                delimiter,
+                distance,
+            } => {
                 if self.waiting || delimiter > 3 || self.depth >= DEEPEST {
                     return Next::Bad;
                 }

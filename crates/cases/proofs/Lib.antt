@@ -1,0 +1,4 @@
+pub mod Cuts
+pub mod Pairs
+pub mod Firsts
+pub mod Lines

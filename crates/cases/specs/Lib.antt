@@ -1,0 +1,5 @@
+pub mod Questions
+pub mod Digits
+pub mod Answers
+pub mod Steps
+pub mod Texts
