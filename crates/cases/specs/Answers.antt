@@ -22,7 +22,7 @@ Opening bs Unknown = ⊥
 -- A refusal by the rules adds the place.
 abbrev pub place-text : StoreFault → List ℕ
 place-text Frame = []
-place-text (Rules place) = codes " " ++ decimal place
+place-text (Rules place rule) = codes " " ++ decimal place
 
 abbrev pub answer-text : Answer → List ℕ
 answer-text Ok = codes "ok"

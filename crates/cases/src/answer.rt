@@ -26,7 +26,7 @@ pub impl fmt::Display for Answer as AnswerDisplay {
                 let number = fault.number();
                 match fault {
                     StoreFault::Frame => write!(f, "no {number}"),
-                    StoreFault::Rules { place } => write!(f, "no {number} {place}"),
+                    StoreFault::Rules { place, .. } => write!(f, "no {number} {place}"),
                 }
             }
             Answer::Closed => f.write_str("closed"),

@@ -35,10 +35,10 @@ pub record Means (bs : List ℕ) (t : Trees Stamp) : Type 0 where
   pub limits : Keeps-limits t
   pub flat : Flat-form-of (listed bs) t
 
--- Why the bytes mean no sheet: a broken frame before anything else, or the first place that offends against the rules.
+-- Why the bytes mean no sheet: a broken frame before anything else, or the first place that breaks a rule.
 abbrev pub Refuses : List ℕ → StoreFault → Type 0
 Refuses bs Frame = framed bs ≡ false
-Refuses bs (Rules place) = (framed bs ≡ true) × (verdict (listed bs) ≡ Offends place) × First-offence (listed bs) place
+Refuses bs (Rules place rule) = (framed bs ≡ true) × (verdict (listed bs) ≡ Offends place rule) × First-offence (listed bs) place rule
 
 -- Accepted, the store holds the bytes and its sheet is what they mean; refused, they are handed back with the reason.
 abbrev pub Opens : Vec ℕ Global → Result Packed Refused → Type 0

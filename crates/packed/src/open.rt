@@ -34,10 +34,10 @@ impl Packed {
     {
         match judge(&framed) {
             Verdict::Lawful => Ok(Packed { framed }),
-            Verdict::Offends { place } => {
+            Verdict::Offends { place, rule } => {
                 let Framed { bytes } = framed;
                 Err(Refused {
-                    fault: StoreFault::Rules { place },
+                    fault: StoreFault::Rules { place, rule },
                     bytes,
                 })
             }

@@ -1,11 +1,12 @@
 ghost use mathlib.Core.Path.{_≡_};
 ghost use Rattle.std.specs.Of.String.{string-bytes};
 ghost use Rattle.std.specs.Vec.{made};
-ghost use Rattle.report.specs.Reports.{counts-text as text-of-counts, report-of, explanation};
+ghost use Rattle.report.specs.Reports.{counts-text as text-of-counts, report-of, rule-words, explanation};
 use crate::counts::Counts;
 use crate::texts::text;
 use crate::totals::tally;
 use crate::view::View;
+use sheet::Rule;
 use sheet::Store;
 use sheet::StoreFault;
 use std::alloc::AllocError;
@@ -48,9 +49,28 @@ pub fn explain(heap: Global, fault: StoreFault) -> Result<String, AllocError>
             heap,
             "refused by 11: the packed frame is broken. Bytes are missing, byte 0 is not 1, or a pair is empty, out of order or past the end of the text.",
         ),
-        StoreFault::Rules { place } => format!(
-            heap,
-            "refused by 10 at place {place}: the entry there breaks a rule of the flat form, or the last End is missing."
-        ),
+        StoreFault::Rules { place, rule } => {
+            let wrong = rule_text(rule);
+            format!(heap, "refused by 10 at place {place}: {wrong}.")
+        }
+    }
+}
+
+/// What is wrong where a rule is broken.
+fn rule_text(rule: Rule) -> &'static str
+    ensures { λ r. ⌜ now r ≡ rule-words rule ⌝ }
+{
+    match rule {
+        Rule::TooMany => "there are more than 65535 entries",
+        Rule::UnknownKind => "the kind of this entry is not known",
+        Rule::NameWanted => "after an apostrophe only a name may stand",
+        Rule::Text => "the text of this name or literal is not good",
+        Rule::Mark => "the character or the spacing of this mark is not legal",
+        Rule::Delimiter => "the delimiter of this group is above 3",
+        Rule::TooDeep => "60 groups are open here already",
+        Rule::Distance =>
+            "the distance of this End does not match its group, or is not 0 where no group is open",
+        Rule::EndTooEarly => "this End closes the sheet, but more entries follow",
+        Rule::EndMissing => "the End that closes the sheet is missing",
     }
 }

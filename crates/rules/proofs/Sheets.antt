@@ -8,7 +8,7 @@ use native.Mathlib.Omega.{arith}
 use native.Mathlib.Nat.{add-zero}
 use lib.Dec.{eqb, leb, ltb}
 use lib.ListN.{length}
-use Rattle.std.proofs.shelf.Tests.{and-parts, and-from}
+use Rattle.std.proofs.shelf.Tests.{and-parts, and-from, leb-true, ltb-true, le-leb, lt-ltb}
 use Rattle.std.proofs.shelf.Ways.{decides-eqb, tells}
 use Rattle.sheet.specs.Trees.{Trees, nil, name, mark, literal, group, size, depth}
 use Rattle.sheet.specs.Entries.{Entry, Group, Name, Mark, Literal, End, Nothing, flat, entries, tree, at}
@@ -18,6 +18,8 @@ use Rattle.sheet.proofs.Places.{at-past}
 use Rattle.rules.specs.Looks.{look-of}
 use Rattle.rules.specs.Rules.{Walk, walk, Next, on, done, bad, matches, close, step, after, judge, verdict, is-lawful}
 use Rattle.rules.specs.Verdicts.{One-lawful-sheet, Some-lawful-sheet}
+use Rattle.sheet.specs.declared.fault.Rule.{Rule}
+use Rattle.sheet.specs.declared.fault.Rule.the-variants.{TooMany, UnknownKind, NameWanted, EndTooEarly}
 use Rattle.rules.specs.declared.look.Verdict.{Verdict}
 use Rattle.rules.specs.declared.look.Verdict.the-variants.{Lawful, Offends}
 use Rattle.rules.specs.declared.walk.Open.{Open}
@@ -30,9 +32,9 @@ record Keeps {St : Type 0} (w : Bool) (n : ℕ) (t : Trees St) : Type 0 where
 
 -- From lawful entries to a sheet.
 
-passes : {St : Type 0} (b : Bool) (m : Next) (p : ℕ) (es : List (Entry St)) (go : Walk → Verdict) → after (cond b m bad) p es go ≡ Lawful → (b ≡ true) × (after m p es go ≡ Lawful)
-passes true m p es go h = (refl, h)
-passes false m p es go h = let z : _≡_ {A = ℕ} 0 1 = cc in absurd (omega arith)
+passes : {St : Type 0} (b : Bool) (m : Next) (rule : Rule) (p : ℕ) (es : List (Entry St)) (go : Walk → Verdict) → after (cond b m (bad rule)) p es go ≡ Lawful → (b ≡ true) × (after m p es go ≡ Lawful)
+passes true m rule p es go h = (refl, h)
+passes false m rule p es go h = let z : _≡_ {A = ℕ} 0 1 = cc in absurd (omega arith)
 
 -- what follows the innermost level: the Ends of the groups that are open, and the levels around them
 abbrev ends : {St : Type 0} → List Open → List (Trees St) → List (Entry St)
@@ -79,23 +81,23 @@ matched : (p x : ℕ) (o : Open) → matches p x o ≡ true → (x ≡ o .claims
 unfolding matches
 matched p x o h = let z = and-parts _ _ h in (decides-eqb _ _ .0 (z .0), decides-eqb _ _ .0 (z .1))
 
-not-waiting : {St : Type 0} (w : Bool) (m : Next) (p : ℕ) (es : List (Entry St)) (go : Walk → Verdict) → after (cond w bad m) p es go ≡ Lawful → (not w ≡ true) × (after m p es go ≡ Lawful)
+not-waiting : {St : Type 0} (w : Bool) (m : Next) (p : ℕ) (es : List (Entry St)) (go : Walk → Verdict) → after (cond w (bad NameWanted) m) p es go ≡ Lawful → (not w ≡ true) × (after m p es go ≡ Lawful)
 not-waiting true m p es go h = let z : _≡_ {A = ℕ} 0 1 = cc in absurd (omega arith)
 not-waiting false m p es go h = (refl, h)
 
 from-lawful : {St : Type 0} (w : Bool) (p : ℕ) (st : List Open) (es : List (Entry St)) → length st ≤ 60 → judge (walk w st) p es ≡ Lawful → Reads St w p st es
 from-lawful w p st [] few h = let z : _≡_ {A = ℕ} 0 1 = cc in absurd (omega arith)
-from-lawful w p st (Nothing ∷ es) few h = let z : _≡_ {A = ℕ} 0 1 = cc in absurd (omega arith)
+from-lawful w p st (Nothing ∷ es) few h =
+    let y : Offends p UnknownKind ≡ Lawful = not-waiting w _ p es _ h .1 in
+    let z : _≡_ {A = ℕ} 0 1 = cc in absurd (omega arith)
 from-lawful w p st (Group x d a b c ∷ es) few h =
-    let y = passes _ _ p es _ h in
-    let l = and-parts (not w) _ (y .0) in
-    let m = and-parts (leb d 3) _ (l .1) in
-    let legal : d ≤ 3 = let k = m .0 in grind (arith, tells) in
-    let room : suc (length st) ≤ 60 = let k = m .1 in grind (arith, tells) in
-    let r = from-lawful false (suc p) (record { from = p; claims = x } ∷ st) es room (y .1) in
-    at-group w p x d a b c st es (r .top) (r .rest) (r .is) (r .keeps) (r .fit) (l .0) legal
+    let n = not-waiting w _ p es _ h in
+    let y = passes (leb d 3) _ _ p es _ (n .1) in
+    let z = passes (ltb (length st) 60) _ _ p es _ (y .1) in
+    let r = from-lawful false (suc p) (record { from = p; claims = x } ∷ st) es (ltb-true _ _ (z .0)) (z .1) in
+    at-group w p x d a b c st es (r .top) (r .rest) (r .is) (r .keeps) (r .fit) (n .0) (leb-true _ _ (y .0))
 from-lawful w p st (Name b s ∷ es) few h =
-    let y = passes _ _ p es _ h in
+    let y = passes _ _ _ p es _ h in
     let r = from-lawful false (suc p) st es few (y .1) in
     record {
       top = name b s (r .top);
@@ -105,39 +107,39 @@ from-lawful w p st (Name b s ∷ es) few h =
       fit = moved _ _ st (r .rest) (omega arith) (r .fit);
     }
 from-lawful w p st (Mark c k s ∷ es) few h =
-    let y = passes _ _ p es _ h in
-    let l = and-parts (not w) _ (y .0) in
+    let n = not-waiting w _ p es _ h in
+    let y = passes _ _ _ p es _ (n .1) in
     let r = from-lawful (apostrophe c) (suc p) st es few (y .1) in
     record {
       top = mark c k s (r .top);
       rest = r .rest;
       is = ap (λ l. Mark c k s ∷ l) (r .is);
-      keeps = record { names = clear w (l .0); sound = (l .1, r .keeps .names, r .keeps .sound); shallow = r .keeps .shallow };
+      keeps = record { names = clear w (n .0); sound = (y .0, r .keeps .names, r .keeps .sound); shallow = r .keeps .shallow };
       fit = moved _ _ st (r .rest) (omega arith) (r .fit);
     }
 from-lawful w p st (Literal b s ∷ es) few h =
-    let y = passes _ _ p es _ h in
-    let l = and-parts (not w) _ (y .0) in
+    let n = not-waiting w _ p es _ h in
+    let y = passes _ _ _ p es _ (n .1) in
     let r = from-lawful false (suc p) st es few (y .1) in
     record {
       top = literal b s (r .top);
       rest = r .rest;
       is = ap (λ l. Literal b s ∷ l) (r .is);
-      keeps = record { names = clear w (l .0); sound = (l .1, r .keeps .sound); shallow = r .keeps .shallow };
+      keeps = record { names = clear w (n .0); sound = (y .0, r .keeps .sound); shallow = r .keeps .shallow };
       fit = moved _ _ st (r .rest) (omega arith) (r .fit);
     }
 from-lawful w p [] (End x ∷ []) few h =
     let n = not-waiting w _ p [] _ h in
-    let y = passes _ _ p [] _ (n .1) in
+    let y = passes _ _ _ p [] _ (n .1) in
     let e : x ≡ 0 = decides-eqb x 0 .0 (y .0) in
     record { top = nil; rest = []; is = ap (λ m. End m ∷ []) (sym e); keeps = record { names = clear w (n .0); sound = tt; shallow = omega arith }; fit = tt }
 from-lawful w p [] (End x ∷ e ∷ es) few h =
     let n = not-waiting w _ p (e ∷ es) _ h in
-    let y : Offends p ≡ Lawful = passes (eqb x 0) done p (e ∷ es) _ (n .1) .1 in
+    let y : Offends p EndTooEarly ≡ Lawful = passes (eqb x 0) done _ p (e ∷ es) _ (n .1) .1 in
     let z : _≡_ {A = ℕ} 0 1 = cc in absurd (omega arith)
 from-lawful w p (o ∷ st) (End x ∷ es) few h =
     let n = not-waiting w _ p es _ h in
-    let y = passes _ _ p es _ (n .1) in
+    let y = passes _ _ _ p es _ (n .1) in
     let m = matched p x o (y .0) in
     let r = from-lawful false (suc p) st es (omega arith) (y .1) in
     record {
@@ -153,7 +155,7 @@ one-level : {St : Type 0} (es : List (Entry St)) (top : Trees St) (rest : List (
 one-level es top [] is fit = is
 one-level es top (t ∷ ls) is fit = absurd fit
 
-is-judged : (b : Bool) (v : Verdict) → cond b v (Offends 0) ≡ Lawful → (b ≡ true) × (v ≡ Lawful)
+is-judged : (b : Bool) (v : Verdict) → cond b v (Offends 0 TooMany) ≡ Lawful → (b ≡ true) × (v ≡ Lawful)
 is-judged true v h = (refl, h)
 is-judged false v h = let z : _≡_ {A = ℕ} 0 1 = cc in absurd (omega arith)
 
@@ -172,8 +174,13 @@ one-lawful-sheet es h =
 
 -- From a sheet to lawful entries.
 
-through : {St : Type 0} (b : Bool) (m : Next) (p : ℕ) (es : List (Entry St)) (go : Walk → Verdict) → b ≡ true → after (cond b m bad) p es go ≡ after m p es go
-through b m p es go h = ap (λ x. after (cond x m bad) p es go) h
+through : {St : Type 0} (b : Bool) (m : Next) (rule : Rule) (p : ℕ) (es : List (Entry St)) (go : Walk → Verdict) → b ≡ true → after (cond b m (bad rule)) p es go ≡ after m p es go
+through b m rule p es go h = ap (λ x. after (cond x m (bad rule)) p es go) h
+
+-- nothing that is not a name stands where an apostrophe waits
+unasked : {St : Type 0} (w : Bool) (m : Next) (p : ℕ) (es : List (Entry St)) (go : Walk → Verdict) → (w ≡ true → ⊥) → after (cond w (bad NameWanted) m) p es go ≡ after m p es go
+unasked true m p es go h = absurd (h refl)
+unasked false m p es go h = refl
 
 match-own : (p n q : ℕ) → q ≡ p + suc n → matches q (suc n) (record { from = p; claims = suc n }) ≡ true
 unfolding matches
@@ -182,35 +189,34 @@ match-own p n q e = and-from _ _ (decides-eqb (suc n) (suc n) .1 refl) (decides-
 nobody : {A : Type 0} → false ≡ true → A
 nobody e = let z : _≡_ {A = ℕ} 0 1 = cc in absurd (omega arith)
 
-free-of : (w : Bool) → (w ≡ true → ⊥) → not w ≡ true
-free-of true h = absurd (h refl)
-free-of false h = refl
-
 -- trees that keep to the rules pass, and the judge goes on behind them
 judge-flat : {St : Type 0} (t : Trees St) (w : Bool) (p : ℕ) (st : List Open) (es : List (Entry St)) → Keeps w (length st) t → judge (walk w st) p (flat t es) ≡ judge (walk false st) (p + size t) es
 judge-flat nil true p st es k = absurd (k .names refl)
 judge-flat nil false p st es k = rw add-zero
 judge-flat (name b s r) w p st es k =
-    through _ _ p (flat r es) _ (k .sound .0)
+    through _ _ _ p (flat r es) _ (k .sound .0)
     ∙ judge-flat r false (suc p) st es (record { names = nobody; sound = k .sound .1; shallow = k .shallow })
     ∙ ap (λ n. judge (walk false st) n es) (omega arith)
 judge-flat (mark c k s r) w p st es h =
-    through _ _ p (flat r es) _ (and-from _ _ (free-of w (h .names)) (h .sound .0))
+    unasked w _ p (flat r es) _ (h .names)
+    ∙ through _ _ _ p (flat r es) _ (h .sound .0)
     ∙ judge-flat r (apostrophe c) (suc p) st es (record { names = h .sound .1; sound = h .sound .2; shallow = h .shallow })
     ∙ ap (λ n. judge (walk false st) n es) (omega arith)
 judge-flat (literal b s r) w p st es k =
-    through _ _ p (flat r es) _ (and-from _ _ (free-of w (k .names)) (k .sound .0))
+    unasked w _ p (flat r es) _ (k .names)
+    ∙ through _ _ _ p (flat r es) _ (k .sound .0)
     ∙ judge-flat r false (suc p) st es (record { names = nobody; sound = k .sound .1; shallow = k .shallow })
     ∙ ap (λ n. judge (walk false st) n es) (omega arith)
 judge-flat (group d a b c i r) w p st es k =
     let o : Open = record { from = p; claims = suc (size i) } in
     let q : ℕ = suc p + size i in
-    let few : leb d 3 ≡ true = let e = k .sound .0 in grind (arith, tells) in
     let deep : suc (length st) + depth i ≤ 60 = let e = k .shallow in omega arith in
-    let room : ltb (length st) 60 ≡ true = grind (arith, tells) in
-    through _ _ p (flat i (End (suc (size i)) ∷ flat r es)) _ (and-from _ _ (free-of w (k .names)) (and-from _ _ few room))
+    let inner : List (Entry _) = flat i (End (suc (size i)) ∷ flat r es) in
+    unasked w _ p inner _ (k .names)
+    ∙ through (leb d 3) _ _ p inner _ (le-leb _ _ (k .sound .0))
+    ∙ through (ltb (length st) 60) _ _ p inner _ (lt-ltb _ _ (omega arith))
     ∙ judge-flat i false (suc p) (o ∷ st) (End (suc (size i)) ∷ flat r es) (record { names = nobody; sound = k .sound .1; shallow = deep })
-    ∙ through (matches q (suc (size i)) o) _ q (flat r es) _ (match-own p (size i) q (omega arith))
+    ∙ through (matches q (suc (size i)) o) _ _ q (flat r es) _ (match-own p (size i) q (omega arith))
     ∙ judge-flat r false (suc q) st es (record { names = nobody; sound = k .sound .2; shallow = let e = k .shallow in omega arith })
     ∙ ap (λ n. judge (walk false st) n es) (omega arith)
 
@@ -218,13 +224,13 @@ pub every-lawful-sheet : {St : Type 0} (es : List (Entry St)) → Some-lawful-sh
 every-lawful-sheet es (t, k, e) =
     let few : leb (length es) 65535 ≡ true = let l = ap length e in let f = k .few in grind (arith, tells) in
     let passed = judge-flat t false 0 [] (End 0 ∷ []) (record { names = nobody; sound = k .sound; shallow = omega (arith, k .shallow) }) in
-    ap (λ x. cond x (judge (walk false []) 0 es) (Offends 0)) few ∙ ap (judge (walk false []) 0) (sym e) ∙ passed
+    ap (λ x. cond x (judge (walk false []) 0 es) (Offends 0 TooMany)) few ∙ ap (judge (walk false []) 0) (sym e) ∙ passed
 
 -- What is judged lawful has lawful marks only.
 
 is-so : (v : Verdict) → is-lawful v ≡ true → v ≡ Lawful
 is-so Lawful h = refl
-is-so (Offends p) h = nobody h
+is-so (Offends p rule) h = nobody h
 
 pub lawful-verdict : {St : Type 0} (es : List (Entry St)) → is-lawful (verdict es) ≡ true → verdict es ≡ Lawful
 lawful-verdict es h = is-so (verdict es) h
@@ -233,13 +239,13 @@ goes : {St : Type 0} (n : Next) (p : ℕ) (es : List (Entry St)) → after n p e
 goes (on v) p es h = inr (v, h)
 goes done p [] h = inl refl
 goes done p (e ∷ es) h = let z : _≡_ {A = ℕ} 0 1 = cc in absurd (omega arith)
-goes bad p es h = let z : _≡_ {A = ℕ} 0 1 = cc in absurd (omega arith)
+goes (bad rule) p es h = let z : _≡_ {A = ℕ} 0 1 = cc in absurd (omega arith)
 
 each-mark : {St : Type 0} (w : Walk) (p : ℕ) (es : List (Entry St)) (k c s : ℕ) (x : St) → judge w p es ≡ Lawful → at es k ≡ Mark c s x → legal-mark c s ≡ true
 each-mark w p [] k c s x h e = let z : _≡_ {A = ℕ} 0 1 = cc in absurd (omega arith)
 each-mark w p (e ∷ es) zero c s x h is =
     let f : judge w p (Mark c s x ∷ es) ≡ Lawful = ap (λ m. judge w p (m ∷ es)) (sym is) ∙ h in
-    and-parts (not (w .waiting)) _ (passes _ _ p es _ f .0) .1
+    passes _ _ _ p es _ (not-waiting (w .waiting) _ p es _ f .1) .0
 each-mark w p (e ∷ es) (suc k) c s x h is =
     ⊎-elim
     (λ none. let f : at [] k ≡ Mark c s x = ap (λ l. at l k) (sym none) ∙ is in let y = sym (at-past [] k (omega arith)) ∙ f in let z : _≡_ {A = ℕ} 0 1 = cc in absurd (omega arith))

@@ -1,5 +1,5 @@
 -- The open groups, held in an array: what one step of the walk does to them.
-use mathlib.Core.Bool.{Bool, true, false, not, _&&_, cond}
+use mathlib.Core.Bool.{Bool, true, false, cond}
 use mathlib.Core.List.{List, [], _∷_}
 use mathlib.Core.Logic.{_≢_}
 use mathlib.Core.Path.{_≡_, refl, sym, ap, _∙_}
@@ -9,9 +9,10 @@ use native.Mathlib.Omega.{arith}
 use lib.Dec.{eqb, leb, ltb}
 use lib.ListN.{length, getD, set}
 use lib.Seq.{getD-set-same, getD-set-other}
-use Rattle.std.proofs.shelf.Ways.{tells}
+use Rattle.std.proofs.shelf.Tests.{le-leb, lt-ltb}
 use Rattle.sheet.specs.Limits.{legal-mark, apostrophe}
-use Rattle.rules.specs.Rules.{Walk, walk, Next, on, bad, step, close, matches}
+use Rattle.sheet.specs.declared.fault.Rule.the-variants.{Distance}
+use Rattle.rules.specs.Rules.{walk, on, bad, step, close, matches}
 use Rattle.rules.specs.Walks.{nowhere, stack}
 use Rattle.rules.specs.declared.look.Look.the-variants.{Group, Mark}
 use Rattle.rules.specs.declared.walk.Open.{Open}
@@ -36,22 +37,22 @@ stack-push gs n o h =
 pub opens : (w : Bool) (gs : List Open) (n p d x : ℕ) → w ≡ false → d ≤ 3 → n < 60 → length gs ≡ 60 → on (walk w (stack (set gs n (record { from = p; claims = x })) (n + 1))) ≡ step (walk w (stack gs n)) p (Group d x)
 opens w gs n p d x clear few shallow sixty =
     let l = stack-length gs n in
-    let t : (not w && (leb d 3 && ltb (length (stack gs n)) 60)) ≡ true = grind (arith, tells) in
     let o : Open = record { from = p; claims = x } in
-    let r : Next = on (walk false (o ∷ stack gs n)) in
-    ap (λ v. on (walk v (stack (set gs n o) (n + 1)))) clear ∙ ap (λ st. on (walk false st)) (stack-push gs n o (omega arith)) ∙ sym (ap (λ b. cond b r bad) t)
+    let legal : leb d 3 ≡ true = le-leb d 3 few in
+    let room : ltb (length (stack gs n)) 60 ≡ true = lt-ltb _ _ (omega arith) in
+    ap (λ v. on (walk v (stack (set gs n o) (n + 1)))) clear ∙ ap (λ st. on (walk false st)) (stack-push gs n o (omega arith)) ∙ sym (rw (clear, legal, room))
 
 pub marks : (w : Bool) (st : List Open) (p c k : ℕ) → w ≡ false → legal-mark c k ≡ true → on (walk (eqb c 39) st) ≡ step (walk w st) p (Mark c k)
 unfolding apostrophe
 marks w st p c k clear legal = rw (clear, legal)
 
 -- the innermost group is the last one held
-innermost : (gs : List Open) (n p x : ℕ) → (n ≡ 0 → ⊥) → close p x (stack gs n) ≡ cond (matches p x (getD gs (n - 1) nowhere)) (on (walk false (stack gs (n - 1)))) bad
+innermost : (gs : List Open) (n p x : ℕ) → (n ≡ 0 → ⊥) → close p x (stack gs n) ≡ cond (matches p x (getD gs (n - 1) nowhere)) (on (walk false (stack gs (n - 1)))) (bad Distance)
 innermost gs n p x some =
     let e : n ≡ suc (n - 1) = omega arith in ap (λ m. close p x (stack gs m)) e
 
 pub closes : (gs : List Open) (n p x : ℕ) → (n ≡ 0 → ⊥) → true ≡ matches p x (getD gs (n - 1) nowhere) → on (walk false (stack gs (n - 1))) ≡ close p x (stack gs n)
 closes gs n p x some h = let i = innermost gs n p x some in rw (i, ← h)
 
-pub differs : (gs : List Open) (n p x : ℕ) → (n ≡ 0 → ⊥) → false ≡ matches p x (getD gs (n - 1) nowhere) → bad ≡ close p x (stack gs n)
+pub differs : (gs : List Open) (n p x : ℕ) → (n ≡ 0 → ⊥) → false ≡ matches p x (getD gs (n - 1) nowhere) → bad Distance ≡ close p x (stack gs n)
 differs gs n p x some h = let i = innermost gs n p x some in rw (i, ← h)

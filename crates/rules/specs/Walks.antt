@@ -22,4 +22,4 @@ walk-of h = walk (h .waiting) (stack (h .groups) (h .depth))
 abbrev pub next-of : Said → Walk → Next
 next-of On w = on w
 next-of Done w = done
-next-of Bad w = bad
+next-of (Bad rule) w = bad rule

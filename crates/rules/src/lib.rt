@@ -7,6 +7,7 @@ ghost use lib.ListN.{length};
 ghost use Prim.Native.Nat.{ℕ};
 ghost use Rattle.rules.specs.Rules.{verdict, walk, judge as judged};
 ghost use Rattle.rules.specs.Verdicts.{One-lawful-sheet, Some-lawful-sheet, First-offence};
+ghost use Rattle.sheet.specs.declared.fault.Rule.{Rule};
 ghost use Rattle.rules.specs.declared.look.Verdict.the-variants.{Lawful as lawful-verdict, Offends as offending};
 
 mod entries;
@@ -20,6 +21,7 @@ pub use look::Verdict;
 pub use look::VerdictDebug;
 pub use look::VerdictEq;
 pub use look::VerdictPartialEq;
+use sheet::Rule;
 pub use step::is_legal_mark;
 pub use step::is_legal_text;
 use walk::Next;
@@ -33,12 +35,15 @@ pub const MOST: usize = 65535;
 pub fn judge<E: Entries>(entries: &E) -> Verdict
     ensures is { λ r. ⌜ r ≡ verdict (E·Entries .listed (now (entries .entry))) ⌝ }
     ensures means { λ r. ⌜ (r ≡ lawful-verdict → One-lawful-sheet (E·Entries .listed (now (entries .entry)))) ⌝ }
-    ensures first { λ r. ⌜ ((place : ℕ) → r ≡ offending place → First-offence (E·Entries .listed (now (entries .entry))) place) ⌝ }
+    ensures first { λ r. ⌜ ((place : ℕ) (rule : Rule) → r ≡ offending place rule → First-offence (E·Entries .listed (now (entries .entry))) place rule) ⌝ }
     ensures every { λ r. ⌜ (Some-lawful-sheet (E·Entries .listed (now (entries .entry))) → r ≡ lawful-verdict) ⌝ }
 {
     let count = entries.len();
     if count > MOST {
-        return Verdict::Offends { place: 0 };
+        return Verdict::Offends {
+            place: 0,
+            rule: Rule::TooMany,
+        };
     }
     walked(entries, count)
 }
@@ -56,13 +61,19 @@ fn walked<E: Entries>(entries: &E, count: usize) -> Verdict
                 return if place + 1 == count {
                     Verdict::Lawful
                 } else {
-                    Verdict::Offends { place }
+                    Verdict::Offends {
+                        place,
+                        rule: Rule::EndTooEarly,
+                    }
                 };
             }
-            Next::Bad => {
-                return Verdict::Offends { place };
+            Next::Bad(rule) => {
+                return Verdict::Offends { place, rule };
             }
         }
     }
-    Verdict::Offends { place: count }
+    Verdict::Offends {
+        place: count,
+        rule: Rule::EndMissing,
+    }
 }

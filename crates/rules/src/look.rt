@@ -1,5 +1,10 @@
 //! What the rules look at, and what they answer.
 
+use sheet::Rule;
+use sheet::RuleDebug;
+use sheet::RuleEq;
+use sheet::RulePartialEq;
+
 /// One entry as the rules see it, whatever make it is of.
 #[derive(Clone, Copy)]
 pub enum Look {
@@ -15,6 +20,6 @@ pub enum Look {
 #[derive(Clone, Copy, PartialEq, Eq, Debug)]
 pub enum Verdict {
     Lawful,
-    /// The first offending place; the count where the last End is missing.
-    Offends { place: usize },
+    /// The first place that breaks a rule, and the rule; the place is the count where the last End is missing.
+    Offends { place: usize, rule: Rule },
 }

@@ -2,13 +2,14 @@ ghost use mathlib.Core.Path.{_≡_};
 ghost use mathlib.Core.Bool.{false};
 ghost use mathlib.Core.List.{[]};
 ghost use Rattle.sheet.specs.Limits.{legal-mark, legal-text};
-ghost use Rattle.rules.specs.Rules.{walk, step as rule, close as closing-rule, matches};
+ghost use Rattle.rules.specs.Rules.{walk, step as step-rule, close as closing-rule, waits as waits-for, matches};
 ghost use Rattle.rules.specs.Walks.{walk-of, next-of};
 use crate::look::Look;
 use crate::walk::DEEPEST;
 use crate::walk::Next;
 use crate::walk::Open;
 use crate::walk::Walk;
+use sheet::Rule;
 
 /// Whether a mark may have this character and this spacing. An apostrophe begins a lifetime, so it is never alone.
 pub fn is_legal_mark(character: char, spacing: u8) -> bool
@@ -65,17 +66,33 @@ impl Walk {
         }
     }
 
+    /// Whether an apostrophe waits for its name and this is none.
+    fn waits(&self, look: Look) -> bool
+        ensures { λ r. ⌜ r ≡ waits-for (walk-of (now (self .entry))) look ⌝ }
+    {
+        match look {
+            Look::Name { .. } => false,
+            _ => self.waiting,
+        }
+    }
+
     /// Takes the entry at a place.
     pub(crate) fn step(&mut self, at: usize, look: Look) -> Next
-        ensures { λ r. ⌜ next-of r (walk-of (now (self .exit))) ≡ rule (walk-of (now (self .entry))) at look ⌝ }
+        ensures { λ r. ⌜ next-of r (walk-of (now (self .exit))) ≡ step-rule (walk-of (now (self .entry))) at look ⌝ }
     {
+        if self.waits(look) {
+            return Next::Bad(Rule::NameWanted);
+        }
         match look {
             Look::Group {
                 delimiter,
                 distance,
             } => {
-                if self.waiting || delimiter > 3 || self.depth >= DEEPEST {
-                    return Next::Bad;
+                if delimiter > 3 {
+                    return Next::Bad(Rule::Delimiter);
+                }
+                if self.depth >= DEEPEST {
+                    return Next::Bad(Rule::TooDeep);
                 }
                 self.groups[self.depth] = Open {
                     from: at,
@@ -86,31 +103,26 @@ impl Walk {
             }
             Look::Name { good } => {
                 if !good {
-                    return Next::Bad;
+                    return Next::Bad(Rule::Text);
                 }
                 self.waiting = false;
                 Next::On
             }
             Look::Mark { character, spacing } => {
-                if self.waiting || !is_legal_mark(character, spacing) {
-                    return Next::Bad;
+                if !is_legal_mark(character, spacing) {
+                    return Next::Bad(Rule::Mark);
                 }
                 self.waiting = character == '\'';
                 Next::On
             }
             Look::Literal { good } => {
-                if self.waiting || !good {
-                    return Next::Bad;
+                if !good {
+                    return Next::Bad(Rule::Text);
                 }
                 Next::On
             }
-            Look::End { distance } => {
-                if self.waiting {
-                    return Next::Bad;
-                }
-                self.close(at, distance)
-            }
-            Look::Nothing => Next::Bad,
+            Look::End { distance } => self.close(at, distance),
+            Look::Nothing => Next::Bad(Rule::UnknownKind),
         }
     }
 
@@ -118,10 +130,14 @@ impl Walk {
         ensures { λ r. ⌜ next-of r (walk-of (now (self .exit))) ≡ closing-rule at distance (walk-of (now (self .entry)) .open-groups) ⌝ }
     {
         if self.depth == 0 {
-            return if distance == 0 { Next::Done } else { Next::Bad };
+            return if distance == 0 {
+                Next::Done
+            } else {
+                Next::Bad(Rule::Distance)
+            };
         }
         if !is_matching(at, distance, self.groups[self.depth - 1]) {
-            return Next::Bad;
+            return Next::Bad(Rule::Distance);
         }
         self.waiting = false;
         self.depth -= 1;

@@ -1,6 +1,7 @@
 ghost use mathlib.Core.Path.{_≡_};
 ghost use Prim.Native.Nat.{_≤_};
 ghost use lib.ListN.{length};
+use sheet::Rule;
 
 /// At most this many groups are open anywhere in a sheet.
 pub const DEEPEST: usize = 60;
@@ -29,6 +30,6 @@ pub(crate) enum Next {
     On,
     /// It is the End that closes the sheet.
     Done,
-    /// It breaks a rule.
-    Bad,
+    /// It breaks this rule.
+    Bad(Rule),
 }

@@ -29,4 +29,4 @@ spacing-number Joint = 1
 
 abbrev pub fault-number : StoreFault → ℕ
 fault-number Frame = 11
-fault-number (Rules place) = 10
+fault-number (Rules place rule) = 10

@@ -5,6 +5,10 @@ mod same;
 mod store;
 mod tree;
 
+pub use fault::Rule;
+pub use fault::RuleDebug;
+pub use fault::RuleEq;
+pub use fault::RulePartialEq;
 pub use fault::StoreFault;
 pub use fault::StoreFaultDebug;
 pub use fault::StoreFaultEq;

@@ -2,11 +2,12 @@
 use packed::Packed;
 use packed::PackedStore;
 use sheet::EntryKind;
+use sheet::Rule;
+use sheet::RuleDebug;
+use sheet::RuleEq;
+use sheet::RulePartialEq;
 use sheet::Store;
 use sheet::StoreFault;
-use sheet::StoreFaultDebug;
-use sheet::StoreFaultEq;
-use sheet::StoreFaultPartialEq;
 use std::alloc::AllocError;
 use std::alloc::Global;
 use std::test::*;
@@ -19,35 +20,38 @@ enum Answer {
     Name(u8),
     Literal(u8),
     Other,
-    No(StoreFault),
+    Frame,
+    Rules(usize, Rule),
 }
 
 use Answer::*;
 
 /// For each byte of the sheet, what its values from one to another (both counted) lead to; its own value is left out.
-const TABLE: [(usize, u8, u8, Answer); 25] = [
-    (0, 0, 0, No(StoreFault::Frame)),
-    (0, 2, 255, No(StoreFault::Frame)),
-    (1, 0, 1, No(StoreFault::Frame)),
-    (1, 3, 255, No(StoreFault::Frame)),
-    (2, 1, 255, No(StoreFault::Frame)),
-    (3, 0, 0, No(StoreFault::Rules { place: 0 })),
-    (3, 2, 255, No(StoreFault::Frame)),
-    (4, 1, 255, No(StoreFault::Frame)),
-    (5, 0, 3, No(StoreFault::Rules { place: 1 })),
+const TABLE: [(usize, u8, u8, Answer); 27] = [
+    (0, 0, 0, Frame),
+    (0, 2, 255, Frame),
+    (1, 0, 1, Frame),
+    (1, 3, 255, Frame),
+    (2, 1, 255, Frame),
+    (3, 0, 0, Rules(0, Rule::Text)),
+    (3, 2, 255, Frame),
+    (4, 1, 255, Frame),
+    (5, 0, 3, Rules(1, Rule::Distance)),
     (5, 5, 5, Literal(97)),
-    (5, 6, 255, No(StoreFault::Rules { place: 0 })),
-    (6, 1, 255, No(StoreFault::Rules { place: 0 })),
-    (7, 1, 255, No(StoreFault::Rules { place: 0 })),
-    (8, 0, 5, No(StoreFault::Rules { place: 2 })),
-    (8, 6, 6, No(StoreFault::Rules { place: 1 })),
-    (8, 8, 255, No(StoreFault::Rules { place: 1 })),
-    (9, 1, 255, No(StoreFault::Rules { place: 1 })),
-    (10, 1, 255, No(StoreFault::Rules { place: 1 })),
-    (11, 1, 255, No(StoreFault::Frame)),
-    (12, 1, 255, No(StoreFault::Frame)),
-    (13, 0, 0, No(StoreFault::Frame)),
-    (13, 2, 255, No(StoreFault::Frame)),
+    (5, 6, 6, Rules(0, Rule::Mark)),
+    (5, 7, 7, Rules(0, Rule::EndTooEarly)),
+    (5, 8, 255, Rules(0, Rule::UnknownKind)),
+    (6, 1, 255, Rules(0, Rule::Text)),
+    (7, 1, 255, Rules(0, Rule::Text)),
+    (8, 0, 5, Rules(2, Rule::EndMissing)),
+    (8, 6, 6, Rules(1, Rule::Mark)),
+    (8, 8, 255, Rules(1, Rule::UnknownKind)),
+    (9, 1, 255, Rules(1, Rule::Distance)),
+    (10, 1, 255, Rules(1, Rule::Distance)),
+    (11, 1, 255, Frame),
+    (12, 1, 255, Frame),
+    (13, 0, 0, Frame),
+    (13, 2, 255, Frame),
     (14, 0, 96, Name(0)),
     (14, 97, 97, Name(0)),
     (14, 98, 255, Name(0)),
@@ -55,7 +59,10 @@ const TABLE: [(usize, u8, u8, Answer); 25] = [
 
 fn opened(bytes: Vec<u8>) -> Answer {
     match Packed::open(bytes) {
-        Err(refused) => No(refused.fault),
+        Err(refused) => match refused.fault {
+            StoreFault::Frame => Frame,
+            StoreFault::Rules { place, rule } => Rules(place, rule),
+        },
         Ok(sheet) => {
             let text = sheet.text(0);
             if sheet.count() != 2 || text.len() != 1 {
@@ -80,7 +87,7 @@ fn every_proper_beginning_is_refused(rt: LibcRuntime) -> Result<(), Fail> {
     for n in 0..15usize {
         let mut bytes = NAME_A.to_vec(rt.alloc())?;
         bytes.truncate(n);
-        check_eq(opened(bytes), No(StoreFault::Frame))?;
+        check_eq(opened(bytes), Frame)?;
     }
     Ok(())
 }

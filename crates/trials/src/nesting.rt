@@ -1,6 +1,7 @@
 //! How deep groups may nest.
 use packed::Packed;
 use packed::PackedStore;
+use sheet::Rule;
 use sheet::Store;
 use sheet::StoreFault;
 use sheet::StoreFaultDebug;
@@ -44,7 +45,13 @@ fn sixty_groups_pass_and_one_more_does_not(rt: LibcRuntime) -> Result<(), Fail> 
     }
     match Packed::open(nested(rt.alloc(), 61)?) {
         Ok(_) => Err(Fail::new("61 groups pass")),
-        Err(refused) => check_eq(refused.fault, StoreFault::Rules { place: 60 }),
+        Err(refused) => check_eq(
+            refused.fault,
+            StoreFault::Rules {
+                place: 60,
+                rule: Rule::TooDeep,
+            },
+        ),
     }
 }
 

@@ -14,7 +14,7 @@ returns-else-place-count g c =
 
 pub returns-in-Bad : need.returns-in-Bad
 returns-in-Bad g c =
-    Judging.offends _ (walk-of (c .loop-place .walk)) _ (c .look .result) (c .loop-place .inv) (omega (arith, c .pre)) (c .look .ensures) (c .in-Bad .ensures tt)
+    Judging.offends _ (walk-of (c .loop-place .walk)) _ (c .look .result) (c .in-Bad .rule) (c .loop-place .inv) (omega (arith, c .pre)) (c .look .ensures) (c .in-Bad .ensures tt)
 
 pub loop-place-again : need.loop-place-again
 loop-place-again g c =
