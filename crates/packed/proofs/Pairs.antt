@@ -36,7 +36,7 @@ one-bad bs n (suc m) l h =
     (cases-lt n m)
 
 pub free-next : (bs : List ℕ) (n : ℕ) → free-from bs (n + 1) ≡ offset bs n + len bs n
-free-next bs n = rw add-one
+free-next bs n = ap (free-from bs) (add-one n)
 
 -- every pair of a whole frame is good
 pub each-good : (bs : List ℕ) (n m : ℕ) → n < m → good-pairs bs m ≡ true → good-pair bs n ≡ true

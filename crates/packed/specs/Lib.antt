@@ -1,3 +1,4 @@
 pub mod Format
 pub mod Slots
 pub mod Opening
+pub mod Sides

@@ -1,4 +1,5 @@
--- The flat form of a sheet: one list of entries, in which a group is a Group, its contents and an End.
+-- The flat form of a sheet: one list of entries, in which a group is a Group, its contents and an End. It is the layout of
+-- `TokenBuffer` in syn's buffer.rs.
 use mathlib.Core.List.{List, [], _∷_}
 use Prim.Native.Nat.{ℕ, suc}
 use lib.ListN.{drop}

@@ -1,4 +1,7 @@
 use native.Mathlib.Omega.{arith}
+use Rattle.std.specs.Of.String.{string-bytes}
+use Rattle.sheet.specs.Entries.{entries}
+use Rattle.report.specs.Writing.{viewed, written}
 use Rattle.report.proofs.Pushes.{nothing-pushed, word-pushed, all-pushed}
 use Rattle.report.proofs.texts.text.Needs as need
 
@@ -7,8 +10,9 @@ loop-at-holds g c = nothing-pushed (c .args .view) (g .S·Store .sheet (c .args 
 
 pub loop-at-again : need.loop-at-again
 loop-at-again g c =
+    let t = g .S·Store .sheet (c .args .store .now) in
     let said = c .in-Continue-gap .ensures tt in
-    word-pushed (c .args .view) _ _ _ _ (c .loop-at .at) (c .loop-at .gap) _ _ (c .loop-at .inv) (omega (arith, c .count-at-end .ensures .is)) (c .word-at .ensures) (said .0) (said .1)
+    word-pushed (c .args .view) (entries t) (written (viewed (c .args .view) t)) (string-bytes (c .loop-at .out)) (string-bytes (c .push-word .last .out)) (c .loop-at .at) (c .loop-at .gap) _ _ (c .loop-at .inv) (omega (arith, c .count-at-end .ensures .is)) (c .word-at .ensures) (said .0) (said .1)
 
 pub returns : need.returns
 returns g c = all-pushed (c .args .view) _ _ _ (c .loop-at .at) (c .loop-at .gap) (c .loop-at .inv) (omega (arith, c .count-at-end .ensures .is))

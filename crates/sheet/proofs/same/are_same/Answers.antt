@@ -8,7 +8,7 @@ pub returns-then-count : need.returns-then-count
 returns-then-count g c = unlike (λ h. c .if-count .taken (c .count-count .ensures .is ∙ alike-length _ _ h ∙ sym (c .count .ensures .is)))
 
 pub returns-then-not-same-entry : need.returns-then-not-same-entry
-returns-then-not-same-entry g c = let told = c .if-not-same-entry .ensures tt in unlike (λ h. false≢true (told .1 (alike-at _ _ (c .loop-at .at) h)))
+returns-then-not-same-entry g c = let told = c .if-not-same-entry .ensures tt in unlike (λ h. false≢true (told .1 (alike-at (g .S·Store .sheet (c .args .a .now)) (g .T·Store .sheet (c .args .b .now)) (c .loop-at .at) h)))
 
 pub returns : need.returns
 returns g c =
