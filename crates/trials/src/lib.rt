@@ -2,8 +2,12 @@
 //! shares no code with the reader.
 
 #[cfg(test)]
+mod each_rule;
+#[cfg(test)]
 mod name_a;
 #[cfg(test)]
 mod nesting;
+#[cfg(test)]
+mod same;
 #[cfg(test)]
 mod shown;
