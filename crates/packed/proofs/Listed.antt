@@ -1,6 +1,6 @@
 -- The entries of a frame, by place.
 use mathlib.Core.List.{List, map}
-use mathlib.Core.Path.{_≡_, refl, sym, ap, _∙_}
+use mathlib.Core.Path.{_≡_, sym, ap, _∙_}
 use Prim.Native.Nat.{ℕ, zero, suc, _+_, _*_, _≤_, _<_}
 use native.Mathlib.Omega.{arith}
 use lib.ListN.{length, getD}
@@ -11,7 +11,6 @@ use Rattle.sheet.proofs.Places.{at-past}
 use Rattle.packed.specs.Format.{word, entry-count, meant, entry, listed}
 use Rattle.packed.specs.Slots.{slot-meant}
 use Rattle.packed.specs.declared.slot.Slot.{Slot}
-use Rattle.packed.specs.declared.stamp.Stamp.{Stamp}
 
 pub length-listed : (bs : List ℕ) → length (listed bs) ≡ entry-count bs
 unfolding listed

@@ -1,7 +1,7 @@
 -- The pairs of a frame, one after another.
-use mathlib.Core.Bool.{true, false, _&&_}
+use mathlib.Core.Bool.{true, false}
 use mathlib.Core.List.{List}
-use mathlib.Core.Path.{_≡_, refl, sym, ap, _∙_}
+use mathlib.Core.Path.{_≡_, ap, _∙_}
 use Prim.Native.Nat.{ℕ, zero, suc, _+_, _*_, _≤_, _<_}
 use native.Mathlib.Numerals.{add-one}
 use native.Mathlib.Omega.{arith}
@@ -9,7 +9,7 @@ use mathlib.Core.Logic.{⊎-elim}
 use Rattle.std.proofs.shelf.Tests.{and-from, and-left, and-right, and-parts, both-ways, cases-lt, cases-bool, leb-true}
 use lib.Dec.{eqb, leb, ltb}
 use lib.ListN.{length, getD}
-use Rattle.packed.specs.Format.{word, pair-count, pairs-from, text-from, pair-from, offset, len, free-from, good-pair, good-pairs, framed}
+use Rattle.packed.specs.Format.{word, pair-count, pairs-from, text-from, offset, len, free-from, good-pair, good-pairs, framed}
 
 -- A pair as the code has read it: where it stands, its offset and its end.
 pub record Read (bs : List ℕ) (n start off long : ℕ) : Type 0 where

@@ -1,7 +1,7 @@
 ghost use mathlib.Core.Path.{_≡_};
 ghost use Prim.Native.Nat.{_+_, _*_, _<_, _≤_};
 ghost use lib.ListN.{length};
-ghost use Rattle.packed.specs.Format.{word, entry-count, pair-count, pairs-from, text-from, pair-from, good-pairs, framed};
+ghost use Rattle.packed.specs.Format.{word, pair-count, pairs-from, text-from, good-pairs, framed};
 
 /// The 16-bit number at a byte.
 pub(crate) fn read_word(bytes: &[u8], at: usize) -> u16

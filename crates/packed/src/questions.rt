@@ -1,4 +1,3 @@
-ghost use mathlib.Core.Path.{_≡_};
 ghost use Rattle.packed.specs.Format.{call-site};
 ghost use Rattle.packed.specs.Opening.{sheet-of};
 use crate::packed::Packed;

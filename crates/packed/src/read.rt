@@ -4,7 +4,6 @@ ghost use Rattle.std.specs.Results.{Cases};
 ghost use mathlib.Core.Bool.{false};
 ghost use mathlib.Core.List.{List};
 ghost use Prim.Native.Nat.{ℕ};
-ghost use lib.ListN.{length};
 ghost use Rattle.sheet.specs.Entries.{at as entry-at};
 ghost use Rattle.packed.specs.Format.{entry-count, pair-text, listed, framed, meant};
 ghost use Rattle.packed.specs.Slots.{slot-meant};

@@ -1,19 +1,17 @@
 -- Writing the entries of a flat form one by one writes the sheet.
 use mathlib.Core.List.{List, [], _∷_, _++_}
 use mathlib.Core.Path.{_≡_, refl, sym, ap, _∙_}
-use Prim.Native.Nat.{ℕ, zero, suc, _+_, _-_, _≤_, _<_}
-use native.Mathlib.Nat.{add-zero}
-use native.Mathlib.Numerals.{add-one}
+use Prim.Native.Nat.{ℕ, zero, suc, _+_, _-_}
 use native.Mathlib.Omega.{arith}
-use lib.ListN.{length, drop}
+use lib.ListN.{drop}
 use lib.Utf8.{encode}
-use Rattle.std.proofs.shelf.Lists.{append-assoc, append-nil, drop-all, drop-drop}
+use Rattle.std.proofs.shelf.Lists.{drop-drop}
 use Rattle.sheet.specs.Trees.{Trees, Bare, nil, name, mark, literal, group, size, then, bare, plain}
 use Rattle.sheet.specs.Entries.{Entry, Group, End, flat, entries, first, at}
 use Rattle.sheet.specs.Questions.{delimiter-of}
-use Rattle.sheet.proofs.Places.{drop-at, drop-flat}
+use Rattle.sheet.proofs.Places.{drop-flat}
 use Rattle.report.specs.Writing.{viewed, escaped, gap-bytes, gap-after, opening, closing, write, written}
-use Rattle.report.specs.Spelling.{Said, silent, said, bracket, end-said, entry-said, say, spell, said-bytes, gap-left}
+use Rattle.report.specs.Spelling.{Said, silent, said, bracket, entry-said, say, spell}
 use Rattle.report.specs.declared.view.Gap.{Gap}
 use Rattle.report.specs.declared.view.Gap.the-variants.{Nothing, Blank}
 use Rattle.report.specs.declared.view.View.{View}

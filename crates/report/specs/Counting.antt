@@ -1,10 +1,9 @@
 -- How many trees of each kind a sheet has, at every depth.
-use mathlib.Core.List.{List, [], _∷_}
 use Prim.Native.Nat.{ℕ, zero, suc, _+_}
 use lib.ListN.{length}
 use Rattle.sheet.specs.Trees.{Trees, nil, name, mark, literal, group}
-use Rattle.sheet.specs.Entries.{Entry, entries}
-use Rattle.sheet.specs.Questions.{Token, a-name, a-literal, a-mark, a-group, no-token, token-of}
+use Rattle.sheet.specs.Entries.{entries}
+use Rattle.sheet.specs.Questions.{Token, a-name, a-literal, a-mark, a-group, no-token}
 use Rattle.report.specs.declared.counts.Counts.{Counts}
 
 -- The sum of a number of each tree, groups with their contents.

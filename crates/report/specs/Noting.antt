@@ -1,6 +1,6 @@
 -- Counting entry by entry, as the loop does it.
 use mathlib.Core.List.{List, [], _∷_}
-use Prim.Native.Nat.{ℕ, _+_, _<_}
+use Prim.Native.Nat.{_+_, _<_}
 use Rattle.sheet.specs.Entries.{Entry}
 use Rattle.sheet.specs.Questions.{Token, token-of}
 use Rattle.report.specs.Counting.{one-name, one-literal, one-mark, one-group, one-invisible}

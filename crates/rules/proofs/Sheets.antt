@@ -1,9 +1,9 @@
 -- Lawful entries and sheets that keep the limits are the same thing.
-use mathlib.Core.Bool.{Bool, true, false, not, _&&_, cond}
+use mathlib.Core.Bool.{Bool, true, false, not, cond}
 use mathlib.Core.List.{List, [], _∷_}
 use mathlib.Core.Logic.{_⊎_, inl, inr, ⊎-elim}
 use mathlib.Core.Path.{_≡_, refl, sym, ap, _∙_, subst}
-use Prim.Native.Nat.{ℕ, zero, suc, _+_, _≤_, _<_}
+use Prim.Native.Nat.{ℕ, zero, suc, _+_, _≤_}
 use native.Mathlib.Omega.{arith}
 use native.Mathlib.Nat.{add-zero}
 use lib.Dec.{eqb, leb, ltb}
@@ -11,12 +11,12 @@ use lib.ListN.{length}
 use Rattle.std.proofs.shelf.Tests.{and-parts, and-from, leb-true, ltb-true, le-leb, lt-ltb}
 use Rattle.std.proofs.shelf.Ways.{decides-eqb, tells}
 use Rattle.sheet.specs.Trees.{Trees, nil, name, mark, literal, group, size, depth}
-use Rattle.sheet.specs.Entries.{Entry, Group, Name, Mark, Literal, End, Nothing, flat, entries, tree, at}
-use Rattle.sheet.specs.Limits.{legal-mark, legal-text, apostrophe, Starts-with-name, Sound, Keeps-limits}
+use Rattle.sheet.specs.Entries.{Entry, Group, Name, Mark, Literal, End, Nothing, flat, entries, at}
+use Rattle.sheet.specs.Limits.{legal-mark, apostrophe, Starts-with-name, Sound, Keeps-limits}
 use Rattle.sheet.proofs.Forms.{own-sheet}
 use Rattle.sheet.proofs.Places.{at-past}
 use Rattle.rules.specs.Looks.{look-of}
-use Rattle.rules.specs.Rules.{Walk, walk, Next, on, done, bad, matches, close, step, after, judge, verdict, is-lawful}
+use Rattle.rules.specs.Rules.{Walk, walk, Next, on, done, bad, matches, step, after, judge, verdict, is-lawful}
 use Rattle.rules.specs.Verdicts.{One-lawful-sheet, Some-lawful-sheet}
 use Rattle.sheet.specs.declared.fault.Rule.{Rule}
 use Rattle.sheet.specs.declared.fault.Rule.the-variants.{TooMany, UnknownKind, NameWanted, EndTooEarly}

@@ -62,7 +62,7 @@ impl Walk {
         Walk {
             waiting: false,
             depth: 0,
-            groups: [Open { from: 0, claims: 0 }; 60],
+            groups: [Open { from: 0, claims: 0 }; DEEPEST],
         }
     }
 

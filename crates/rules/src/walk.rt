@@ -18,7 +18,7 @@ pub struct Open {
 pub(crate) struct Walk {
     pub(crate) waiting: bool,
     pub(crate) depth: usize,
-    pub(crate) groups: [Open; 60],
+    pub(crate) groups: [Open; DEEPEST],
     ghost shallow: { depth ≤ 60 },
     ghost sized: { length groups ≡ 60 },
 }

@@ -3,7 +3,7 @@ use mathlib.Core.List.{List, [], _∷_}
 use mathlib.Core.Path.{_≡_, refl, sym, ap, _∙_}
 use Prim.Native.Nat.{suc}
 use Rattle.sheet.specs.Trees.{Trees, nil, name, mark, literal, group, size, then}
-use Rattle.sheet.specs.Entries.{Entry, Group, Name, Mark, Literal, End, flat, entries, Levels, levels, levels-of, put, tree}
+use Rattle.sheet.specs.Entries.{Entry, Group, Name, Mark, Literal, End, flat, entries, levels, levels-of, put, tree}
 use Rattle.sheet.specs.Forms.{Read-back, One-sheet, Own-sheet}
 
 pub then-nil : {St : Type 0} (t : Trees St) → then t nil ≡ t

@@ -8,7 +8,7 @@ use lib.ListN.{length}
 use Rattle.std.specs.Orderings.{Decides}
 use Rattle.std.proofs.shelf.Lists.{length-map}
 use Rattle.sheet.specs.Trees.{Trees, nil, name, mark, literal, group, size, bare}
-use Rattle.sheet.specs.Entries.{Entry, Group, Name, Mark, Literal, End, Nothing, flat, entries, first, at, bare-entry}
+use Rattle.sheet.specs.Entries.{Entry, Group, Name, Mark, Literal, End, Nothing, flat, entries, at, bare-entry}
 use Rattle.sheet.specs.Numbers.{kind-number}
 use Rattle.sheet.specs.Questions.{kind-of, distance-of, delimiter-of, character-of, spacing-of, text-of}
 
