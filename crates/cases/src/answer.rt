@@ -1,3 +1,4 @@
+//! Answers, and how they are written.
 ghost use Rattle.std.specs.Of.Vec.{vec-items};
 ghost use Rattle.std.specs.declared.option.Option.the-variants.{Some};
 ghost use Rattle.cases.specs.Answers.{Opening, answer-text};

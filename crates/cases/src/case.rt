@@ -1,3 +1,4 @@
+//! A case, question by question.
 ghost use mathlib.Core.Path.{_≡_};
 ghost use Rattle.std.specs.Vec.{made};
 ghost use Rattle.cases.specs.Steps.{First, Steps, begun as begun-by};

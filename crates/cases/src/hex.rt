@@ -1,3 +1,4 @@
+//! Bytes that are written in hexadecimal digits.
 ghost use mathlib.Core.Path.{_≡_};
 ghost use Rattle.cases.specs.Digits.{digit as digit-of, pairs, hex-bytes, Gives};
 ghost use Rattle.cases.specs.declared.hex.HexFault.the-variants.{Memory};

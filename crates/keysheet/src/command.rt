@@ -1,3 +1,4 @@
+//! What the words of the command line ask for.
 ghost use Rattle.keysheet.specs.Verbs.{Asks};
 
 /// What the first word asks for.

@@ -1,3 +1,4 @@
+//! What may go wrong, and the line that says so.
 use std::alloc::AllocError;
 use std::fmt;
 use std::io;

@@ -1,3 +1,4 @@
+//! The frame of packed bytes: whether entries, pairs and text lie where the counts say.
 ghost use mathlib.Core.Path.{_≡_};
 ghost use Prim.Native.Nat.{_+_, _*_, _<_, _≤_};
 ghost use lib.ListN.{length};

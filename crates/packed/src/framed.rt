@@ -1,3 +1,4 @@
+//! Bytes with a whole frame. The type stands alone in its file, since its invariant imports the whole file.
 ghost use mathlib.Core.Path.{_≡_};
 ghost use mathlib.Core.Bool.{true};
 ghost use Rattle.std.specs.Of.Vec.{vec-items};

@@ -1,3 +1,4 @@
+//! What a packed store answers.
 ghost use Rattle.packed.specs.Format.{call-site};
 ghost use Rattle.packed.specs.Opening.{sheet-of};
 use crate::packed::Packed;

@@ -1,3 +1,4 @@
+//! Reading entries and texts from bytes with a whole frame.
 ghost use mathlib.Core.Path.{_≡_};
 ghost use Rattle.std.specs.Of.Vec.{vec-items};
 ghost use Rattle.std.specs.Results.{Cases};

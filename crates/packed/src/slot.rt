@@ -1,3 +1,4 @@
+//! An entry as its three bytes have it.
 use sheet::Delimiter;
 
 /// One entry as it is read from the bytes: a name or literal by the number of its pair.

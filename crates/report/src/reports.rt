@@ -1,3 +1,4 @@
+//! The whole report, and the sentence for a sheet that was refused.
 ghost use mathlib.Core.Path.{_≡_};
 ghost use Rattle.std.specs.Of.String.{string-bytes};
 ghost use Rattle.std.specs.Vec.{made};

@@ -1,3 +1,4 @@
+//! The text of a sheet, written word by word.
 ghost use mathlib.Core.Path.{_≡_};
 ghost use mathlib.Core.List.{_++_};
 ghost use Prim.Native.Nat.{_<_};

@@ -1,3 +1,4 @@
+//! Counting what a sheet holds.
 ghost use mathlib.Core.Path.{_≡_};
 ghost use Prim.Native.Nat.{_<_};
 ghost use Rattle.sheet.specs.Questions.{token-said};

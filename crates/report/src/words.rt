@@ -1,3 +1,4 @@
+//! The word that one entry adds to the text.
 ghost use mathlib.Core.Path.{_≡_};
 ghost use Rattle.sheet.specs.Entries.{entries, at as entry-at};
 ghost use Rattle.sheet.specs.Numbers.{delimiter-number, spacing-number};

@@ -1,3 +1,4 @@
+//! What a make of entry has to show so that it can be judged.
 ghost use mathlib.Core.Path.{_≡_};
 ghost use mathlib.Core.List.{List};
 ghost use lib.ListN.{length};

@@ -1,3 +1,4 @@
+//! The judge's walk over the entries, one entry at a time.
 ghost use mathlib.Core.Path.{_≡_};
 ghost use mathlib.Core.Bool.{false};
 ghost use mathlib.Core.List.{[]};

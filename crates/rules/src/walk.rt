@@ -1,3 +1,4 @@
+//! What the judge remembers between two entries.
 ghost use mathlib.Core.Path.{_≡_};
 ghost use Prim.Native.Nat.{_≤_};
 ghost use lib.ListN.{length};

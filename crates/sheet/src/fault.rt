@@ -1,3 +1,4 @@
+//! Why something could not be opened as a store: the causes, by number.
 ghost use mathlib.Core.Path.{_≡_};
 ghost use Rattle.sheet.specs.Numbers.{fault-number};
 

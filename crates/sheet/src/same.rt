@@ -1,3 +1,4 @@
+//! Whether two stores hold the same sheet.
 ghost use mathlib.Core.Path.{_≡_};
 ghost use Rattle.std.specs.Orderings.{Decides};
 ghost use Rattle.sheet.specs.Trees.{bare};

@@ -1,3 +1,4 @@
+//! The interface of every place where a sheet is kept.
 ghost use mathlib.Core.Path.{_≡_};
 ghost use lib.ListN.{length};
 ghost use Rattle.sheet.specs.Trees.{Trees};

@@ -1,3 +1,4 @@
+//! The tree that begins at a place, as whoever reads a sheet sees it.
 use crate::kind::Delimiter;
 use crate::kind::Spacing;
 
