@@ -4,6 +4,7 @@ ghost use mathlib.Core.List.{_++_};
 ghost use Prim.Native.Nat.{_<_};
 ghost use Rattle.std.specs.Of.String.{string-bytes};
 ghost use Rattle.std.specs.Vec.{made};
+ghost use Rattle.sheet.specs.Plain.{None-left, Nothing-else-changed};
 ghost use Rattle.report.specs.Spelling.{word-said, said-bytes, gap-left};
 ghost use Rattle.report.specs.Writing.{hex-digit as digit-of, shown-byte, escape, escaped, gap-bytes, viewed, written};
 use crate::view::Gap;
@@ -84,9 +85,12 @@ fn push_word(out: &mut String, gap: Gap, word: Word<'_>) -> Result<Gap, AllocErr
     }
 }
 
-/// The text of a sheet: all of it as it was filled, or its plain reading.
+/// The text of a sheet: all of it as it was filled, or its plain reading, in which no invisible group is left and nothing else
+/// has changed.
 pub fn text<S: Store>(heap: Global, store: &S, view: View) -> Result<String, AllocError>
-    ensures { λ r. ⌜ made r (λ s. string-bytes s ≡ written (viewed view (S·Store .sheet (now (store .entry))))) ⌝ }
+    ensures is { λ r. ⌜ made r (λ s. string-bytes s ≡ written (viewed view (S·Store .sheet (now (store .entry))))) ⌝ }
+    ensures none_left { λ _. ⌜ None-left S·Stamp ⌝ }
+    ensures nothing_else { λ _. ⌜ Nothing-else-changed S·Stamp ⌝ }
 {
     let mut out = String::new(heap);
     let mut gap = Gap::Nothing;

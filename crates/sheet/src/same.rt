@@ -1,7 +1,8 @@
 //! Whether two stores hold the same sheet.
 ghost use mathlib.Core.Path.{_≡_};
 ghost use Rattle.std.specs.Orderings.{Decides};
-ghost use Rattle.sheet.specs.Trees.{bare};
+ghost use mathlib.Core.Bool.{true};
+ghost use Rattle.sheet.specs.Trees.{bare, plain as plain-reading};
 ghost use Rattle.sheet.specs.Entries.{entries, bare-entry, at as entry-at};
 ghost use Rattle.sheet.specs.Forms.{Read-back, One-sheet, Own-sheet};
 use crate::store::Store;
@@ -33,6 +34,7 @@ fn same_entry<S: Store, T: Store>(a: &S, b: &T, at: usize) -> bool
 pub fn same_sheet<S: Store, T: Store>(a: &S, b: &T) -> bool
     ensures nested { λ r. ⌜ Decides r (bare (S·Store .sheet (now (a .entry))) ≡ bare (T·Store .sheet (now (b .entry)))) ⌝ }
     ensures flat { λ r. ⌜ Decides r (entries (bare (S·Store .sheet (now (a .entry)))) ≡ entries (bare (T·Store .sheet (now (b .entry))))) ⌝ }
+    ensures plain { λ r. ⌜ (r ≡ true → plain-reading (S·Store .sheet (now (a .entry))) ≡ plain-reading (T·Store .sheet (now (b .entry)))) ⌝ }
     ensures read_back { λ _. ⌜ Read-back S·Stamp ⌝ }
     ensures one_sheet { λ _. ⌜ One-sheet S·Stamp ⌝ }
     ensures own_sheet { λ _. ⌜ Own-sheet S·Stamp ⌝ }
