@@ -1,6 +1,6 @@
 -- The plain reading: no invisible group is left, nothing else has changed, and stamps do not matter to it.
 use mathlib.Core.Path.{_≡_, refl, ap, _∙_, sym}
-use Prim.Native.Nat.{ℕ, zero, suc}
+use Prim.Native.Nat.{zero, suc}
 use Rattle.sheet.specs.Trees.{Trees, Bare, nil, name, mark, literal, group, then, bare, plain}
 use Rattle.sheet.specs.Plain.{All-visible, None-left, Nothing-else-changed}
 

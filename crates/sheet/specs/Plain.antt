@@ -1,6 +1,6 @@
 -- What the plain reading is, in words of the sheets that it comes from: laws above its definition.
 use mathlib.Core.Path.{_≡_}
-use Prim.Native.Nat.{ℕ, zero, suc}
+use Prim.Native.Nat.{zero, suc}
 use Rattle.sheet.specs.Trees.{Trees, nil, name, mark, literal, group, bare, plain}
 
 -- No invisible group stands anywhere among the trees.
