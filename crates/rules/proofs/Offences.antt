@@ -2,11 +2,11 @@
 use mathlib.Core.Bool.{false, cond}
 use mathlib.Core.List.{List, [], _∷_, _++_}
 use mathlib.Core.Logic.{⊎-elim}
-use mathlib.Core.Path.{_≡_, sym, ap, _∙_}
+use mathlib.Core.Path.{_≡_, refl, sym, ap, _∙_}
 use Prim.Native.Nat.{ℕ, zero, suc, _+_, _≤_, _<_}
 use native.Mathlib.Omega.{arith}
 use lib.ListN.{length, take, length-take}
-use Rattle.std.proofs.shelf.Tests.{cases-lt, le-leb, lt-leb}
+use Rattle.std.proofs.shelf.Tests.{cases-lt, lt-leb}
 use Rattle.sheet.specs.Entries.{Entry}
 use Rattle.rules.specs.Looks.{look-of}
 use Rattle.rules.specs.Rules.{Walk, walk, Next, on, done, bad, step, after, judge, verdict}
@@ -15,6 +15,7 @@ use Rattle.sheet.specs.declared.fault.Rule.{Rule}
 use Rattle.sheet.specs.declared.fault.Rule.the-variants.{TooMany, EndMissing}
 use Rattle.rules.specs.declared.look.Verdict.{Verdict}
 use Rattle.rules.specs.declared.look.Verdict.the-variants.{Lawful, Offends}
+use Rattle.rules.proofs.Judging.{verdict-is}
 
 -- The judge names a place and a rule; from them the place can be read again.
 same-place : (p n : ℕ) (q r : Rule) → _≡_ {A = Verdict} (Offends p q) (Offends n r) → p ≡ n
@@ -64,7 +65,7 @@ stands w p (suc k) n r (e ∷ es) more far within some h =
     onward (step w p (look-of e)) p n r r es (take (suc k) es ++ more) (omega arith) (λ v. stands v (suc p) k n r es more (omega arith) (omega arith) some) h
 
 judged : {St : Type 0} (es : List (Entry St)) → length es ≤ 65535 → verdict es ≡ judge (walk false []) 0 es
-judged es few = ap (λ b. cond b (judge (walk false []) 0 es) (Offends 0 TooMany)) (le-leb _ _ few)
+judged es few = sym (verdict-is es (length es) refl few)
 
 within-limit : {St : Type 0} (es : List (Entry St)) (n : ℕ) (r : Rule) → length es ≤ 65535 → verdict es ≡ Offends n r → First-offence es n r
 within-limit es n r few h =
