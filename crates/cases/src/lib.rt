@@ -1,4 +1,6 @@
 //! Cases that are replayed: the parts of their lines, and what their questions are answered.
+#![tactic(auto)]
+
 mod answer;
 mod case;
 mod hex;

@@ -1,4 +1,6 @@
 //! Cases that are replayed: what their questions are answered.
+#![tactic(auto)]
+
 mod answer;
 mod begun;
 mod case;

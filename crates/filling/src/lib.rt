@@ -1,4 +1,6 @@
 //! Filling a table with a sheet, call by call.
+#![tactic(auto)]
+
 mod call;
 mod calls;
 mod fault;

@@ -1,4 +1,6 @@
 //! The contents of a group as a store of their own, over any store.
+#![tactic(auto)]
+
 mod inside;
 mod open;
 mod questions;

@@ -1,4 +1,6 @@
 //! `keysheet`: shows what stands in a packed key sheet.
+#![tactic(auto)]
+
 mod command;
 mod failure;
 

@@ -1,4 +1,6 @@
 //! The lines of a case: where a question ends, and what its pieces say.
+#![tactic(auto)]
+
 mod cut;
 mod fault;
 mod given;

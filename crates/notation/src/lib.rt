@@ -1,4 +1,6 @@
 //! The notation of cases: what a piece of a line says, and how an entry of a table is written.
+#![tactic(auto)]
+
 mod calls;
 mod entries;
 mod numerals;

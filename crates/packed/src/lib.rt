@@ -1,4 +1,6 @@
 //! A sheet packed into bytes.
+#![tactic(auto)]
+
 mod frame;
 mod framed;
 mod open;

@@ -1,4 +1,6 @@
 //! Reads cases on standard input and writes them back on standard output, with every answer worked out afresh.
+#![tactic(auto)]
+
 use cases::replayed;
 use std::io;
 use std::io::{Read, Write};

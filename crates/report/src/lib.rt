@@ -1,4 +1,6 @@
 //! What `keysheet show` reports of a sheet: how much it holds, and its text.
+#![tactic(auto)]
+
 mod counts;
 mod reports;
 mod texts;

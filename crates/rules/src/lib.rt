@@ -1,5 +1,7 @@
 //! The flat rules: which lists of entries are the flat form of a sheet that keeps the limits. They are judged once, here,
 //! for every make of entry.
+#![tactic(auto)]
+
 ghost use Rattle.std.specs.Prelude.{◌≡◌, ℕ, false, [], length};
 ghost use Rattle.rules.specs.Rules.{verdict, walk, judge as judged};
 ghost use Rattle.rules.specs.Verdicts.{OneLawfulSheet, SomeLawfulSheet, FirstOffence};

@@ -1,4 +1,6 @@
 //! The subject: what a key sheet is, and the interface of every place where one is kept.
+#![tactic(auto)]
+
 mod fault;
 mod for_ref;
 mod kind;

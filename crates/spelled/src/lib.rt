@@ -1,4 +1,6 @@
 //! Sheets that are spelled out: by the calls that tell them, and by the words of a line.
+#![tactic(auto)]
+
 mod fault;
 mod line;
 mod reading;
