@@ -9,7 +9,7 @@ returns-then-place-count g c =
 
 pub returns-else-place-count : goal.returns-else-place-count
 returns-else-place-count g c =
-    Judging.ends-early _ (walk_of c.loop-place.walk) _ c.look.result c.loop-place.invariant (omega (arith, c.requires)) (λ e. c.if-place-count.false (omega (arith, e, c.requires))) c.look.ensures c.in-Done.ensures
+    Judging.ends_early _ (walk_of c.loop-place.walk) _ c.look.result c.loop-place.invariant (omega (arith, c.requires)) (λ e. c.if-place-count.false (omega (arith, e, c.requires))) c.look.ensures c.in-Done.ensures
 
 pub returns-in-Bad : goal.returns-in-Bad
 returns-in-Bad g c =
@@ -21,4 +21,4 @@ loop-place-preserved g c =
 
 pub returns : goal.returns
 returns g c =
-    Judging.runs-out _ (walk_of c.loop-place.walk) c.loop-place.place c.args.count c.loop-place.invariant c.requires c.loop-place-test.false (omega arith)
+    Judging.runs_out _ (walk_of c.loop-place.walk) c.loop-place.place c.args.count c.loop-place.invariant c.requires c.loop-place-test.false (omega arith)
