@@ -1,7 +1,7 @@
 -- What a verdict says of the entries, in words of sheets: a law above the rules.
 use Rattle.std.specs.Prelude.{◌≡◌, ℕ, suc, ◌<◌, ◌≤◌, List, ◌++◌, length, take}
 use Rattle.sheet.specs.Trees.{Trees}
-use Rattle.sheet.specs.Entries.{Entry, entries, tree}
+use Rattle.sheet.specs.Entries.{Entry, tree}
 use Rattle.sheet.specs.Forms.{FlatFormOf}
 use Rattle.sheet.specs.Limits.{KeepsLimits}
 use Rattle.sheet.specs.declared.fault.Rule.{Rule}

@@ -10,8 +10,8 @@ returns-else-self-ge-DEEPEST c =
     opens h.waiting h.groups h.depth c.args.at c.in-Group.delimiter c.in-Group.distance (sym (c.if-waits.ensures ∙ ap (waits (walk_of h)) c.in-Group.is)) c.if-delimiter-gt3.false c.if-self-ge-DEEPEST.false h.sized
     ∙ sym (ap (step (walk_of h) c.args.at) c.in-Group.is)
 
-pub returns-else-not-is-legal-mark : goal.returns-else-not-is-legal-mark
-returns-else-not-is-legal-mark c =
+pub returns-else-not-is_legal_mark : goal.returns-else-not-is_legal_mark
+returns-else-not-is_legal_mark c =
     let h = c.args.self.now in
-    marks h.waiting _ c.args.at c.in-Mark.character c.in-Mark.spacing (sym (c.if-waits.ensures ∙ ap (waits (walk_of h)) c.in-Mark.is)) (sym c.if-not-is-legal-mark.ensures)
+    marks h.waiting _ c.args.at c.in-Mark.character c.in-Mark.spacing (sym (c.if-waits.ensures ∙ ap (waits (walk_of h)) c.in-Mark.is)) (sym c.if-not-is_legal_mark.ensures)
     ∙ sym (ap (step (walk_of h) c.args.at) c.in-Mark.is)
