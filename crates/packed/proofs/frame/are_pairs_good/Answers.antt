@@ -8,7 +8,7 @@ pub returns-then-end-offset : goal.returns-then-end-offset
 returns-then-end-offset c =
     let bs = c.args.bytes.now in
     let n = c.loop-n.n in
-    let r : Read bs n c.start-of-pairs-start.result c.from-offset.result c.from.result = record { start_is = c.start-of-pairs-start.ensures.is; offset_is = c.from-offset.ensures ∙ c.read-word-in-loop-n.ensures; long_is = c.from.ensures } in
+    let r : Read bs n c.start_of_pairs-start.result c.from-offset.result c.from.result = record { start_is = c.start_of_pairs-start.ensures.is; offset_is = c.from-offset.ensures ∙ c.read_word-in-loop-n.ensures; long_is = c.from.ensures } in
     let o = read_offset bs n _ _ _ r in
     let l = read_long bs n _ _ _ r in
     let bad : good_pair bs n ≡ false = grind (arith, nat_tests) in
@@ -19,7 +19,7 @@ pub loop-n-preserved : goal.loop-n-preserved
 loop-n-preserved c =
     let bs = c.args.bytes.now in
     let n = c.loop-n.n in
-    let r : Read bs n c.start-of-pairs-start.result c.from-offset.result c.from.result = record { start_is = c.start-of-pairs-start.ensures.is; offset_is = c.from-offset.ensures ∙ c.read-word-in-loop-n.ensures; long_is = c.from.ensures } in
+    let r : Read bs n c.start_of_pairs-start.result c.from-offset.result c.from.result = record { start_is = c.start_of_pairs-start.ensures.is; offset_is = c.from-offset.ensures ∙ c.read_word-in-loop-n.ensures; long_is = c.from.ensures } in
     let o = read_offset bs n _ _ _ r in
     let l = read_long bs n _ _ _ r in
     let good : good_pair bs n ≡ true = grind (arith, nat_tests) in

@@ -6,4 +6,4 @@ returns-then-at-count c = none_past _ _ c.count.result c.count.ensures c.if-at-c
 
 pub returns : goal.returns
 returns c =
-    slot_is _ c.as-slice-bytes.result.now c.args.at c.count.result c.read-word.result c.slot-of.result c.as-slice-bytes.ensures.value c.count.ensures c.if-at-count.false c.read-word.ensures c.slot-of.ensures
+    slot_is _ c.as_slice-bytes.result.now c.args.at c.count.result c.read_word.result c.slot_of.result c.as_slice-bytes.ensures.value c.count.ensures c.if-at-count.false c.read_word.ensures c.slot_of.ensures
