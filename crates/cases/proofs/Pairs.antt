@@ -1,6 +1,6 @@
 -- Pairs of digits, one after another.
-use Rattle.std.proofs.Common.{◌≡◌, ℕ, ◌+◌, ◌-◌, ◌*◌, Bool, false, eqb, List, [], ◌∷◌, ◌++◌, length, get_or, take, drop, Some, None, codes, Decides, Option, Result, Vec, sym, refl, ap, ◌∙◌, subst, append_assoc, arith}
-use Rattle.std.specs.Cmp.Lexicographic.{Matches}
+use Rattle.std.proofs.Common.{◌≡◌, ℕ, ◌+◌, ◌-◌, ◌*◌, false, eqb, List, [], ◌∷◌, ◌++◌, length, get_or, take, drop, Some, None, codes, Option, Result, Vec, sym, refl, ap, ◌∙◌, subst, append_assoc, arith}
+use Rattle.std.specs.Cmp.Lexicographic.{pointwise}
 use Rattle.std.specs.declared.alloc.Global.{Global}
 use Rattle.std.proofs.lemmas.Slice.Eq.{slice_eq-Decides}
 use Rattle.std.proofs.lemmas.List.{take_rest}
@@ -30,7 +30,7 @@ one_more bs cs (x ∷ y ∷ left) h l all high low is so_far =
     ∙ so_far
 
 -- one character is no pair, and only `-` stands for no bytes
-pub read_in_pairs : (text : List ℕ) (r : Result (Vec ℕ Global) HexFault) → false ≡ eqb (length text) 0 → Matches (λ (a b : ℕ) (t : Bool). Decides t (a ≡ b)) text (codes "-") false → Gives (pairs text) r → Gives (hex_bytes text) r
+pub read_in_pairs : (text : List ℕ) (r : Result (Vec ℕ Global) HexFault) → false ≡ eqb (length text) 0 → false ≡ pointwise eqb text (codes "-") → Gives (pairs text) r → Gives (hex_bytes text) r
 read_in_pairs [] r some dash h = let z : ◌≡◌ {A = ℕ} 0 1 = cc in absurd (omega arith)
 read_in_pairs (d ∷ []) r some dash h =
     let other : d ≡ 45 → ⊥ = λ e. false≢true ((slice_eq-Decides Decides-eqb (d ∷ []) (codes "-") false dash).1 (ap (λ x. x ∷ []) e)) in

@@ -35,7 +35,7 @@ pub fn from_hex(heap: Global, text: &[u8]) -> Result<Vec<u8>, HexFault>
     if text.is_empty() {
         return Err(HexFault::NotHexadecimal);
     }
-    if text == b"-" {
+    if text == b"-".as_slice() {
         return Ok(Vec::new(heap));
     }
     from_digits(heap, text)

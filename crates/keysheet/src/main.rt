@@ -7,6 +7,7 @@ mod failure;
 use command::{Verb, asked};
 use failure::Failure;
 use packed::Packed;
+use std::process::ExitCode;
 use std::{env, fs};
 
 const USAGE: &str = "keysheet reads the key sheets of counter scales
@@ -17,16 +18,12 @@ const USAGE: &str = "keysheet reads the key sheets of counter scales
 A sheet that breaks a rule is refused by a number, which docs/REFUSALS.md
 explains. The status is 0 if all went well, else 1.";
 
-/// The line on standard error is written before this is returned: it only sets the status.
-#[derive(Drop)]
-pub struct Failed;
-
-fn main(rt: HostRuntime) -> Result<(), Failed> {
+fn main(rt: HostRuntime) -> ExitCode {
     match run(&rt) {
-        Ok(()) => Ok(()),
+        Ok(()) => ExitCode::SUCCESS,
         Err(failure) => {
             let _ = eprintln!(rt; "keysheet: {failure}");
-            Err(Failed)
+            ExitCode::FAILURE
         }
     }
 }

@@ -1,6 +1,6 @@
 -- Where ` = ` stands in a line.
-use Rattle.std.proofs.Common.{◌≡◌, ℕ, ◌-◌, ◌<◌, ◌≤◌, Bool, List, ◌++◌, length, take, drop, codes, Decides, sym, ap, ◌∙◌, subst, ⊎_elim, arith}
-use Rattle.std.specs.Cmp.Lexicographic.{Matches}
+use Rattle.std.proofs.Common.{◌≡◌, ℕ, ◌-◌, ◌<◌, ◌≤◌, Bool, eqb, List, ◌++◌, length, take, drop, codes, Decides, sym, ap, ◌∙◌, subst, ⊎_elim, arith}
+use Rattle.std.specs.Cmp.Lexicographic.{pointwise}
 use Rattle.std.proofs.lemmas.Slice.Eq.{starts_is}
 use Rattle.std.proofs.lemmas.List.{take_rest, drop_all, length-take-le, take-append-drop}
 use Rattle.std.proofs.lemmas.Bool.{cases_lt}
@@ -8,7 +8,7 @@ use Rattle.lines.specs.Questions.{CutAt, QuestionOf, cut}
 use Rattle.std.proofs.lemmas.Bool.Decides.{Decides-eqb}
 
 -- what `starts_with` says of the rest of a line from a place on
-pub decided : (line : List ℕ) (at : ℕ) (r : Bool) → Matches (λ (a b : ℕ) (t : Bool). Decides t (a ≡ b)) (codes " = ") (take 3 (take (length line - at) (drop at line))) r → Decides r (CutAt line at)
+pub decided : (line : List ℕ) (at : ℕ) (r : Bool) → r ≡ pointwise eqb (codes " = ") (take 3 (take (length line - at) (drop at line))) → Decides r (CutAt line at)
 decided line at r h =
     let s = take (length line - at) (drop at line) in
     let e = take_rest line at in

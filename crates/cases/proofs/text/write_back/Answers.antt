@@ -4,4 +4,4 @@ use Rattle.cases.proofs.text.write_back.Goals as goal
 
 pub returns : goal.returns
 returns c =
-    answered c.args.case c.in-ok-next.next c.in-ok-next.answer c.args.line.now c.question-asked.result.now c.as-bytes.result.now _ _ _ c.if-is-empty.ensures c.question-asked.ensures c.in-ok-next.ensures (c.as-bytes.ensures.value ∙ c.in-ok-answered.ensures.ok) c.in-ok-extend-from-slice-2.ensures.items c.in-ok-extend-from-slice-3.ensures.items
+    answered c.args.case c.in_ok-next.next c.in_ok-next.answer c.args.line.now c.question-asked.result.now c.as_bytes.result.now _ _ _ c.if-is_empty.ensures c.question-asked.ensures c.in_ok-next.ensures (c.as_bytes.ensures.value ∙ c.in_ok-answered.ensures.ok) c.in_ok-extend_from_slice-2.ensures.items c.in_ok-extend_from_slice-3.ensures.items
