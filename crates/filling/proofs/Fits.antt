@@ -1,7 +1,7 @@
 -- Trees that may be told next to each other.
 use Rattle.std.proofs.Common.{◌≡◌, ℕ, ◌≤◌, max, true, false, cond, List, sym, refl, ap, ◌∙◌, subst, arith}
 use Rattle.sheet.specs.Trees.{Trees, nil, name, mark, literal, group, then, depth}
-use Rattle.sheet.specs.Limits.{legal_mark, legal_text, apostrophe, StartsWithName, Sound}
+use Rattle.sheet.specs.Limits.{legal_mark, legal_text, StartsWithName, Sound}
 use Rattle.sheet.proofs.Forms.{then_nil}
 use Rattle.filling.specs.Causes.{is_waiting}
 use Rattle.filling.specs.Filling.{state_after}

@@ -1,13 +1,13 @@
 -- The refusal of a short table comes neither too early nor too late.
-use Rattle.std.proofs.Common.{◌≡◌, ℕ, suc, ◌+◌, ◌≤◌, min, Bool, true, false, cond, not, ◌&&◌, leb, ◌⊎◌, List, [], ◌∷◌, ◌++◌, length, sym, refl, ap, ◌∙◌, subst, ⊎_elim, append_assoc, arith}
+use Rattle.std.proofs.Common.{◌≡◌, ℕ, suc, ◌+◌, ◌≤◌, min, Bool, true, false, cond, not, ◌&&◌, leb, List, [], ◌∷◌, ◌++◌, length, sym, refl, ap, ◌∙◌, subst, ⊎_elim, append_assoc, arith}
 use Rattle.std.proofs.lemmas.Bool.{le-leb, lt-ltb, cases_Bool}
 use Rattle.sheet.specs.Trees.{Trees, nil, name, mark, literal, group, size, depth}
-use Rattle.sheet.specs.Entries.{End, entries}
+use Rattle.sheet.specs.Entries.{End}
 use Rattle.sheet.specs.Limits.{apostrophe, legal_text, StartsWithName, Sound}
 use Rattle.table.specs.Texts.{good_place, text_at}
 use Rattle.table.specs.declared.slot.TextPlace.{TextPlace}
 use Rattle.table.proofs.Good.{legal_bytes}
-use Rattle.filling.specs.Causes.{is_sealed, is_waiting, nothing_to_close, owed, refusal}
+use Rattle.filling.specs.Causes.{is_sealed, is_waiting, nothing_to_close, owed}
 use Rattle.filling.specs.Filling.{moved, state_after, but_innermost}
 use Rattle.filling.specs.Progress.{Progress, progress, start}
 use Rattle.filling.specs.Runs.{Accepted, progress_after, Tells, NeverTooEarly, NeverTooLate}

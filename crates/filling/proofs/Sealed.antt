@@ -12,7 +12,7 @@ use Rattle.table.specs.declared.slot.Slot.TheVariants.{Name as SName, Mark as SM
 use Rattle.table.specs.declared.slot.TextPlace.{TextPlace}
 use Rattle.table.proofs.Good.{legal_bytes}
 use Rattle.filling.specs.Causes.{is_sealed, is_waiting, none_open, long_enough, owed, refusal}
-use Rattle.filling.specs.Filling.{moved, entered, close_at, closed, state_after}
+use Rattle.filling.specs.Filling.{moved, entered, close_at, state_after}
 use Rattle.filling.specs.Progress.{Progress, start}
 use Rattle.filling.specs.Runs.{Accepted, progress_after, table_after, Tells, SealedRuns}
 use Rattle.filling.specs.declared.call.Call.{Call}

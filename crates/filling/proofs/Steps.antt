@@ -2,7 +2,7 @@
 use Rattle.std.proofs.Common.{◌≡◌, ℕ, suc, ◌+◌, ◌-◌, ◌<◌, ◌≤◌, true, false, List, [], ◌∷◌, ◌++◌, map, length, get_or, take, set, sym, refl, ap, ◌∙◌, subst, arith, length-set, length-take-le, get_or-take}
 use lib.Seq.{map-set, take-set-lt, set-append_seam, drop-append_seam}
 use Rattle.std.proofs.lemmas.List.{take_more_set, map_push}
-use Rattle.sheet.specs.Trees.{Trees, nil, name, mark, literal, group, size, depth, then}
+use Rattle.sheet.specs.Trees.{Trees, nil, size, depth, then}
 use Rattle.sheet.specs.Entries.{Entry, Group, Name, Mark, Literal, End, Nothing, flat, first, at}
 use Rattle.sheet.specs.Limits.{StartsWithName}
 use Rattle.table.specs.Slots.{slot_meant, listed}

@@ -1,5 +1,5 @@
 -- Calls tell at most one sheet: it is read back from them, from the last to the first.
-use Rattle.std.proofs.Common.{◌≡◌, ℕ, List, [], ◌∷◌, ◌++◌, sym, refl, ap, ◌∙◌, append_assoc, append-nil}
+use Rattle.std.proofs.Common.{◌≡◌, ℕ, List, [], ◌∷◌, ◌++◌, sym, ap, ◌∙◌, append_assoc, append-nil}
 use Rattle.sheet.specs.Trees.{Trees, nil, name, mark, literal, group, then}
 use Rattle.sheet.proofs.Forms.{then_nil}
 use Rattle.table.specs.Texts.{text_at}

@@ -3,8 +3,8 @@ use Rattle.std.proofs.lemmas.Bool.Decides.{nat_tests}
 use Rattle.wide_rules.proofs.Stacks.{stack_length, stack_pop}
 use Rattle.filling.proofs.filling.Filling.close_group.Goals as goal
 
-pub returns-then-not-has-room : goal.returns-then-not-has-room
-returns-then-not-has-room c = λ a b.
+pub returns-then-not-has_room : goal.returns-then-not-has_room
+returns-then-not-has_room c = λ a b.
     let l = stack_length 0 c.args.self.now.groups c.args.self.now.depth in
     let p = stack_pop 0 c.args.self.now.groups c.args.self.now.depth (omega arith) in
     grind (arith, nat_tests)

@@ -3,8 +3,8 @@ use Rattle.std.proofs.lemmas.Bool.Decides.{nat_tests}
 use Rattle.wide_rules.proofs.Stacks.{stack_length}
 use Rattle.filling.proofs.filling.Filling.put_name.Goals as goal
 
-pub returns-then-not-has-room : goal.returns-then-not-has-room
-returns-then-not-has-room c = let l = stack_length 0 c.args.self.now.groups c.args.self.now.depth in grind (arith, nat_tests)
+pub returns-then-not-has_room : goal.returns-then-not-has_room
+returns-then-not-has_room c = let l = stack_length 0 c.args.self.now.groups c.args.self.now.depth in grind (arith, nat_tests)
 
 pub returns : goal.returns
 returns c = let l = stack_length 0 c.args.self.now.groups c.args.self.now.depth in grind (arith, nat_tests)
