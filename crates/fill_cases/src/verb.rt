@@ -33,21 +33,21 @@ pub(crate) fn asked(question: &[u8]) -> (Verb, Option<&[u8]>)
 fn verb_of(word: &[u8]) -> Verb
     ensures { result ≡ verb_of_lem word.now }
 {
-    if word == b"packed" {
+    if word == b"packed".as_slice() {
         Verb::Packed
-    } else if word == b"slots" {
+    } else if word == b"slots".as_slice() {
         Verb::Slots
-    } else if word == b"sheet" {
+    } else if word == b"sheet".as_slice() {
         Verb::Sheet
-    } else if word == b"filling" {
+    } else if word == b"filling".as_slice() {
         Verb::Filling
-    } else if word == b"inside" {
+    } else if word == b"inside".as_slice() {
         Verb::Inside
-    } else if word == b"table" {
+    } else if word == b"table".as_slice() {
         Verb::Table
-    } else if word == b"cut" {
+    } else if word == b"cut".as_slice() {
         Verb::Cut
-    } else if word == b"read" {
+    } else if word == b"read".as_slice() {
         Verb::Read
     } else {
         Verb::Other

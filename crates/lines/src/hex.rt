@@ -13,7 +13,7 @@ pub fn from_hex(heap: Global, text: &[u8]) -> Result<Vec<u8>, LineFault>
     if text.is_empty() {
         return Err(LineFault::Unknown);
     }
-    if text == b"-" {
+    if text == b"-".as_slice() {
         return Ok(Vec::new(heap));
     }
     from_digits(heap, text)

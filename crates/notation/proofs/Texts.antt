@@ -1,17 +1,17 @@
 -- Tests of a text against one text after another.
-use Rattle.std.proofs.Common.{◌≡◌, ℕ, Bool, true, false, cond, List, Decides, sym, refl, ◌∙◌, ⊎_elim}
-use Rattle.std.specs.Cmp.Lexicographic.{Matches}
+use Rattle.std.proofs.Common.{◌≡◌, ℕ, true, false, cond, eqb, List, sym, refl, ◌∙◌, ⊎_elim}
+use Rattle.std.specs.Cmp.Lexicographic.{pointwise}
 use Rattle.std.specs.Str.{bytes_eq}
 use Rattle.std.proofs.lemmas.Slice.Eq.{slice_eq-Decides, bytes_eq-Decides}
 use Rattle.std.proofs.lemmas.Bool.{false≢true, cases_Bool, cond-false}
 use Rattle.std.proofs.lemmas.Bool.Decides.{Decides-eqb}
 
--- what `==` says of two texts
-pub same : (xs ys : List ℕ) → Matches (λ (a b : ℕ) (t : Bool). Decides t (a ≡ b)) xs ys true → xs ≡ ys
-same xs ys m = (slice_eq-Decides Decides-eqb xs ys true m).0 refl
+-- what `==` says of a text and the slice of another
+pub same : (xs ys zs : List ℕ) → zs ≡ ys → true ≡ pointwise eqb xs zs → xs ≡ ys
+same xs ys zs is m = (slice_eq-Decides Decides-eqb xs zs true m).0 refl ∙ is
 
-pub differ : (xs ys : List ℕ) → Matches (λ (a b : ℕ) (t : Bool). Decides t (a ≡ b)) xs ys false → xs ≡ ys → ⊥
-differ xs ys m e = false≢true ((slice_eq-Decides Decides-eqb xs ys false m).1 e)
+pub differ : (xs ys zs : List ℕ) → zs ≡ ys → false ≡ pointwise eqb xs zs → xs ≡ ys → ⊥
+differ xs ys zs is m e = false≢true ((slice_eq-Decides Decides-eqb xs zs false m).1 (e ∙ sym is))
 
 apart : (xs ys : List ℕ) → (xs ≡ ys → ⊥) → bytes_eq xs ys ≡ false
 apart xs ys other =

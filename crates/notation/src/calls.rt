@@ -15,17 +15,17 @@ pub fn call(question: &[u8]) -> Option<Call>
     ensures { result ≡ call_of_lem question.now }
 {
     let (verb, fields) = first_part(question, b' ');
-    if verb == b"name" {
+    if verb == b"name".as_slice() {
         name(fields)
-    } else if verb == b"mark" {
+    } else if verb == b"mark".as_slice() {
         mark(fields)
-    } else if verb == b"literal" {
+    } else if verb == b"literal".as_slice() {
         literal(fields)
-    } else if verb == b"open" {
+    } else if verb == b"open".as_slice() {
         open(fields)
-    } else if verb == b"close" {
+    } else if verb == b"close".as_slice() {
         close(fields)
-    } else if verb == b"seal" {
+    } else if verb == b"seal".as_slice() {
         seal(fields)
     } else {
         None

@@ -29,13 +29,13 @@ pub fn token(word: &[u8]) -> Option<SheetToken<'_>>
 fn text_token<'a>(kind: &[u8], text: &'a [u8]) -> Option<SheetToken<'a>>
     ensures { option_map piece result ≡ text_piece kind.now text.now }
 {
-    if kind == b"n" {
+    if kind == b"n".as_slice() {
         Some(SheetToken::Name(text))
-    } else if kind == b"l" {
+    } else if kind == b"l".as_slice() {
         Some(SheetToken::Literal(text))
-    } else if kind == b"p" {
+    } else if kind == b"p".as_slice() {
         mark(text, 0)
-    } else if kind == b"j" {
+    } else if kind == b"j".as_slice() {
         mark(text, 1)
     } else {
         None

@@ -4,7 +4,7 @@ use Rattle.std.proofs.lemmas.Bool.{ltb-true, ltb-false}
 use Rattle.notation.specs.Tokens.{bracket_of}
 use Rattle.notation.proofs.Signs.{no_bracket, not_one}
 use Rattle.notation.proofs.tokens.bracket.Goals as goal
-use Rattle.notation.proofs.tokens.bracket.Goals.{in-default-via-then-word-lt1, in-default-via-else-word-lt1+then-word-lt2+in-default·, in-default-via-else-word-lt1+else-word-lt2}
+use Rattle.notation.proofs.tokens.bracket.Goals.{in_default-via-then-word-lt1, in_default-via-else-word-lt1+then-word-lt2+in_default-1, in_default-via-else-word-lt1+else-word-lt2}
 
 pub returns-in-60 : goal.returns-in-60
 returns-in-60 c =
@@ -38,11 +38,11 @@ pub returns-in-93 : goal.returns-in-93
 returns-in-93 c =
     let e : c.args.word.now ≡ codes "]" = search (rules, text_from_reads) in ap bracket_of (sym e)
 
-pub returns-in-default : goal.returns-in-default
-returns-in-default c =
+pub returns-in_default : goal.returns-in_default
+returns-in_default c =
     let word = c.args.word.now in
-    elim c.in-default.branch [
-      | in-default-via-then-word-lt1 w ↦ not_one word (λ k. omega (arith, ltb-true))
-      | in-default-via-else-word-lt1+then-word-lt2+in-default· w ↦ no_bracket word (λ e. let k = ap (λ l. get_or l 0 0) e in omega arith) (λ e. let k = ap (λ l. get_or l 0 0) e in omega arith) (λ e. let k = ap (λ l. get_or l 0 0) e in omega arith) (λ e. let k = ap (λ l. get_or l 0 0) e in omega arith) (λ e. let k = ap (λ l. get_or l 0 0) e in omega arith) (λ e. let k = ap (λ l. get_or l 0 0) e in omega arith) (λ e. let k = ap (λ l. get_or l 0 0) e in omega arith) (λ e. let k = ap (λ l. get_or l 0 0) e in omega arith)
-      | in-default-via-else-word-lt1+else-word-lt2 w ↦ not_one word (λ k. omega (arith, ltb-false))
+    elim c.in_default.branch [
+      | in_default-via-then-word-lt1 w ↦ not_one word (λ k. omega (arith, ltb-true))
+      | in_default-via-else-word-lt1+then-word-lt2+in_default-1 w ↦ no_bracket word (λ e. let k = ap (λ l. get_or l 0 0) e in omega arith) (λ e. let k = ap (λ l. get_or l 0 0) e in omega arith) (λ e. let k = ap (λ l. get_or l 0 0) e in omega arith) (λ e. let k = ap (λ l. get_or l 0 0) e in omega arith) (λ e. let k = ap (λ l. get_or l 0 0) e in omega arith) (λ e. let k = ap (λ l. get_or l 0 0) e in omega arith) (λ e. let k = ap (λ l. get_or l 0 0) e in omega arith) (λ e. let k = ap (λ l. get_or l 0 0) e in omega arith)
+      | in_default-via-else-word-lt1+else-word-lt2 w ↦ not_one word (λ k. omega (arith, ltb-false))
     ]
