@@ -2,4 +2,4 @@ use Rattle.lines.proofs.Cuts.{decided}
 use Rattle.lines.proofs.cut.is_cut.Goals as goal
 
 pub returns : goal.returns
-returns c = decided c.args.line.now c.args.at _ c.starts-with.ensures.value
+returns c = decided c.args.line.now c.args.at _ c.starts_with.ensures.value

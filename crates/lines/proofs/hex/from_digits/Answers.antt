@@ -4,4 +4,4 @@ use Rattle.lines.proofs.hex.from_digits.Goals as goal
 
 pub loop-left-preserved : goal.loop-left-preserved
 loop-left-preserved c =
-    one_more (vec_items c.loop-left.bytes) _ c.loop-left.left.now c.in-Some-Some.high c.in-Some-Some.low _ c.in-Some-Some.ensures c.in-Some-Some.ensures' c.in-ok-push.ensures.items c.loop-left.invariant
+    one_more (vec_items c.loop-left.bytes) _ c.loop-left.left.now c.in-Some-Some.high c.in-Some-Some.low _ c.in-Some-Some.ensures c.in-Some-Some.ensures' c.in_ok-push-in-Some-Some.ensures.items c.loop-left.invariant

@@ -7,7 +7,7 @@ loop-entry-init c = refl
 
 pub loop-entry-preserved : goal.loop-entry-preserved
 loop-entry-preserved c =
-    one_written c.args.entries.now c.loop-entry.entry-index _ _ _ _ _ _ c.loop-entry-test.true refl c.in-ok-extend-from-slice.ensures.items c.in-ok-write-slot.ensures.writes c.loop-entry.invariant
+    one_written c.args.entries.now c.loop-entry.entry-index _ _ _ _ _ _ c.loop-entry-test.true refl c.in_ok-extend_from_slice.ensures.items c.in_ok-write_slot.ensures.writes c.loop-entry.invariant
 
 pub returns : goal.returns
 returns c = all_written c.args.entries.now c.loop-entry.entry-index _ _ c.loop-entry-test.false c.loop-entry.invariant
