@@ -2,7 +2,7 @@
 use Rattle.std.proofs.Common.{◌≡◌, ℕ, suc, ◌+◌, ◌*◌, ◌≤◌, Bool, true, false, cond, eqb, List, [], ◌∷◌, ◌++◌, length, drop, Some, None, Option, sym, refl, ap, ◌∙◌, subst, inl, inr, append_assoc, append-nil, arith, length-append}
 use Rattle.std.proofs.lemmas.Bool.{eq-eqb, eqb-true, cond-true}
 use Rattle.sheet.specs.Trees.{Trees, nil, name, mark, literal, group, size}
-use Rattle.sheet.specs.Entries.{End, entries}
+use Rattle.sheet.specs.Entries.{End}
 use Rattle.sheet.specs.Limits.{Sound, KeepsLimits}
 use Rattle.table.specs.Texts.{text_at}
 use Rattle.filling.specs.Runs.{Tells}

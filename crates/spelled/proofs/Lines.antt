@@ -5,7 +5,6 @@ use Rattle.table.specs.declared.table.Table.{Table}
 use Rattle.table.proofs.Opened.{its_sheet}
 use Rattle.filling.specs.Runs.{Tells}
 use Rattle.filling.specs.declared.call.Call.{Call}
-use Rattle.notation.specs.Parts.{words}
 use Rattle.spelled.specs.Whole.{WholeSheet, TellsNothing}
 use Rattle.spelled.specs.Reading.{Reads}
 use Rattle.spelled.specs.Spelling.{SpellsOut}

@@ -4,7 +4,6 @@ use Rattle.sheet.specs.Trees.{Trees, nil, name, mark, literal, group, size}
 use Rattle.sheet.specs.Limits.{KeepsLimits}
 use Rattle.table.specs.Opening.{sheet_of}
 use Rattle.table.specs.declared.table.Table.{Table}
-use Rattle.notation.specs.Parts.{words}
 use Rattle.notation.specs.Tokens.{token_of, opening, closing, name as name_token, mark as mark_token, literal as literal_token}
 use Rattle.spelled.specs.declared.fault.SpelledFault.{SpelledFault}
 use Rattle.spelled.specs.declared.fault.SpelledFault.TheVariants.{NotASheet, Lawless, Memory}

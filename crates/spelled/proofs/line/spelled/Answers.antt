@@ -2,4 +2,4 @@ use Rattle.spelled.proofs.Unique.{one_spelling}
 use Rattle.spelled.proofs.line.spelled.Goals as goal
 
 pub returns : goal.returns
-returns c = record { sheet = c.from-words.ensures; no_other = one_spelling }
+returns c = record { sheet = c.from_words.ensures; no_other = one_spelling }
