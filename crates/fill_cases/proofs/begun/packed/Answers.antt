@@ -5,4 +5,4 @@ use Rattle.fill_cases.proofs.begun.packed.Goals as goal
 
 pub returns-in-Ok : goal.returns-in-Ok
 returns-in-Ok c =
-    subst (λ (o : Option (List ℕ)). BeginsPacked o c.open-packed.result.0 c.open-packed.result.1) (sym (ap (λ o. bytes_given (option_map (λ x. x.now) o)) c.in-Some.is ∙ c.in-Ok.ensures)) (c.in-Ok.bytes, refl, c.open-packed.ensures)
+    subst (λ (o : Option (List ℕ)). BeginsPacked o c.open_packed.result.0 c.open_packed.result.1) (sym (ap (λ o. bytes_given (option_map (λ x. x.now) o)) c.in-Some.is ∙ c.in-Ok.ensures)) (c.in-Ok.bytes, refl, c.open_packed.ensures)

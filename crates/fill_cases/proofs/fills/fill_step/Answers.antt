@@ -21,4 +21,4 @@ returns-in-Read c =
     let w = c.args.work in
     let p : Parts = record { entries = c.truncate-in-Read.new.self; sheet = w.parts.sheet; template = w.parts.template } in
     let first = c.truncate-in-Read.ensures.items ∙ ap (λ n. take n (vec_items w.parts.entries)) c.written.ensures in
-    subst (λ (q : FillQuestionSaid). StepsFilling w q c.open-table.result.0 c.open-table.result.1) c.in-Read.ensures (p, record { entries = first; sheet = refl; template = refl }, c.open-table.ensures)
+    subst (λ (q : FillQuestionSaid). StepsFilling w q c.open_table.result.0 c.open_table.result.1) c.in-Read.ensures (p, record { entries = first; sheet = refl; template = refl }, c.open_table.ensures)

@@ -7,7 +7,7 @@ use Rattle.fill_cases.proofs.text.replayed.Goals as goal
 
 pub loop-left-preserved : goal.loop-left-preserved
 loop-left-preserved c =
-    one_more c.loop-left.case c.in-ok-case.case c.loop-left.left.now _ c.first-line.result.1.now _ _ (Replays Fresh (lines c.args.text.now)) c.loop-left.invariant c.first-line.ensures.cut c.in-ok-case.ensures
+    one_more c.loop-left.case c.in_ok-case.case c.loop-left.left.now _ c.first_line.result.1.now _ _ (Replays Fresh (lines c.args.text.now)) c.loop-left.invariant c.first_line.ensures.cut c.in_ok-case.ensures
 
 pub returns : goal.returns
 returns c =
