@@ -101,14 +101,18 @@ enum Answer {
 
 use Answer::*;
 
-fn check_answer(answer: Result<usize, FillFault>, want: Answer) -> Result<(), Fail> {
+fn check_answer(
+    rt: &impl Abort,
+    answer: Result<usize, FillFault>,
+    want: Answer,
+) -> Result<(), Fail> {
     match (answer, want) {
         (Ok(place), At(wanted)) => {
-            assert_eq!(place, wanted);
+            assert_eq!(rt; place, wanted);
             Ok(())
         },
         (Err(fault), By(number)) => {
-            assert_eq!(fault.number(), number);
+            assert_eq!(rt; fault.number(), number);
             Ok(())
         },
         (Ok(place), By(_)) => Err(Fail::new(format_args!("accepted at {place}"))),
@@ -179,17 +183,23 @@ impl Desk {
     }
 
     /// Puts a call. Accepted, it writes the next place; refused, it changes nothing.
-    fn answers(&mut self, heap: Global, call: Call, want: Answer) -> Result<(), Fail> {
+    fn answers(
+        &mut self,
+        rt: &impl Abort,
+        heap: Global,
+        call: Call,
+        want: Answer,
+    ) -> Result<(), Fail> {
         let written = self.filling.written();
         let entries = self.parts.entries.as_slice().to_vec(heap)?;
-        check_answer(self.put(call), want)?;
+        check_answer(rt, self.put(call), want)?;
         match want {
             At(place) => {
-                assert!(written == place && self.filling.written() == place.saturating_add(1));
+                assert!(rt; written == place && self.filling.written() == place.saturating_add(1));
                 Ok(())
             },
             By(_) => {
-                assert!(
+                assert!(rt;
                     written == self.filling.written()
                         && self.parts.entries.as_slice() == entries.as_slice()
                 );
@@ -199,20 +209,24 @@ impl Desk {
     }
 
     /// Puts calls one after another.
-    fn run(&mut self, heap: Global, calls: &[(Call, Answer)]) -> Result<(), Fail> {
+    fn run(&mut self, rt: &impl Abort, heap: Global, calls: &[(Call, Answer)]) -> Result<(), Fail> {
         for k in 0..calls.len() {
             let (call, want) = calls[k];
-            self.answers(heap, call, want)
-                .note(format_args!("call {k}"))?;
+            self.answers(rt, heap, call, want)?;
         }
         Ok(())
     }
 }
 
 /// Puts calls to a new filling, on a table of so many entries.
-fn told(heap: Global, length: usize, calls: &[(Call, Answer)]) -> Result<Desk, Fail> {
+fn told(
+    rt: &impl Abort,
+    heap: Global,
+    length: usize,
+    calls: &[(Call, Answer)],
+) -> Result<Desk, Fail> {
     let mut desk = Desk::new(heap, length)?;
-    match desk.run(heap, calls) {
+    match desk.run(rt, heap, calls) {
         Ok(()) => Ok(desk),
         Err(fail) => Err(fail),
     }
@@ -275,6 +289,7 @@ fn check_sheet(rt: &impl Abort, sheet: &Table, entries: &[Seen]) -> Result<(), F
 #[test]
 fn a_table_of_three_has_room_for_one_empty_group(rt: HostRuntime) -> Result<(), Fail> {
     let desk = told(
+        &rt,
         rt.alloc(),
         3,
         &[
@@ -298,23 +313,23 @@ fn a_table_of_three_has_room_for_one_empty_group(rt: HostRuntime) -> Result<(), 
 }
 
 /// The table has room for 60 groups and no more, so a 61st would be too much for it as well.
-fn sixty(heap: Global) -> Result<Desk, Fail> {
+fn sixty(rt: &impl Abort, heap: Global) -> Result<Desk, Fail> {
     let mut desk = Desk::new(heap, 121)?;
     for place in 0..60usize {
-        desk.answers(heap, GROUP, At(place))?;
+        desk.answers(rt, heap, GROUP, At(place))?;
     }
     // the delimiter is looked at before the depth
-    desk.run(heap, &[(GROUP, By(8)), (FOUR, By(5)), (NAME_A, By(9))])?;
+    desk.run(rt, heap, &[(GROUP, By(8)), (FOUR, By(5)), (NAME_A, By(9))])?;
     for place in 60..120usize {
-        desk.answers(heap, CLOSE, At(place))?;
+        desk.answers(rt, heap, CLOSE, At(place))?;
     }
-    desk.answers(heap, Call::Seal, At(120))?;
+    desk.answers(rt, heap, Call::Seal, At(120))?;
     Ok(desk)
 }
 
 #[test]
 fn sixty_groups_are_opened_and_one_more_is_not(rt: HostRuntime) -> Result<(), Fail> {
-    let sheet = opened(sixty(rt.alloc())?)?;
+    let sheet = opened(sixty(&rt, rt.alloc())?)?;
     assert_eq!(rt; sheet.count(), 121);
     for place in 0..60usize {
         assert_eq!(rt;
@@ -329,8 +344,8 @@ fn sixty_groups_are_opened_and_one_more_is_not(rt: HostRuntime) -> Result<(), Fa
 
 #[test]
 fn the_empty_sheet_is_one_entry(rt: HostRuntime) -> Result<(), Fail> {
-    told(rt.alloc(), 0, &[(Call::Seal, By(9))])?;
-    let desk = told(rt.alloc(), 1, &[(NAME_A, By(9)), (Call::Seal, At(0))])?;
+    told(&rt, rt.alloc(), 0, &[(Call::Seal, By(9))])?;
+    let desk = told(&rt, rt.alloc(), 1, &[(NAME_A, By(9)), (Call::Seal, At(0))])?;
     check_sheet(&rt, &opened(desk)?, &[Seen::End(0)])
 }
 
@@ -342,6 +357,7 @@ fn an_empty_invisible_group_is_three_entries(rt: HostRuntime) -> Result<(), Fail
         opening: 2,
     };
     let desk = told(
+        &rt,
         rt.alloc(),
         3,
         &[(invisible, At(0)), (CLOSE, At(1)), (Call::Seal, At(2))],
@@ -360,8 +376,9 @@ fn an_empty_invisible_group_is_three_entries(rt: HostRuntime) -> Result<(), Fail
 /// An apostrophe keeps room for its name too, and takes nothing else before it.
 #[test]
 fn an_apostrophe_waits_for_its_name(rt: HostRuntime) -> Result<(), Fail> {
-    told(rt.alloc(), 2, &[(APOSTROPHE, By(9))])?;
+    told(&rt, rt.alloc(), 2, &[(APOSTROPHE, By(9))])?;
     let desk = told(
+        &rt,
         rt.alloc(),
         5,
         &[
@@ -416,6 +433,7 @@ fn literal(text: u32, offset: u32, length: u32) -> Call {
 #[test]
 fn each_refusal_leaves_filling_and_table_as_they_were(rt: HostRuntime) -> Result<(), Fail> {
     told(
+        &rt,
         rt.alloc(),
         9,
         &[
@@ -452,6 +470,7 @@ fn each_refusal_leaves_filling_and_table_as_they_were(rt: HostRuntime) -> Result
 #[test]
 fn a_short_table_is_the_last_cause(rt: HostRuntime) -> Result<(), Fail> {
     told(
+        &rt,
         rt.alloc(),
         0,
         &[
@@ -464,17 +483,19 @@ fn a_short_table_is_the_last_cause(rt: HostRuntime) -> Result<(), Fail> {
         ],
     )?;
     // the group stays open, and the table is shorter afterwards
-    let mut desk = told(rt.alloc(), 3, &[(GROUP, At(0))])?;
+    let mut desk = told(&rt, rt.alloc(), 3, &[(GROUP, At(0))])?;
     desk.parts.entries.truncate(1);
     desk.run(
+        &rt,
         rt.alloc(),
         &[(Call::Seal, By(7)), (CLOSE, By(9)), (FOUR, By(5))],
     )
 }
 
 /// `( a 'xy ) += 7 ⟨ [ ] ⟩ bc`
-fn all_kinds(heap: Global) -> Result<Desk, Fail> {
+fn all_kinds(rt: &impl Abort, heap: Global) -> Result<Desk, Fail> {
     told(
+        rt,
         heap,
         16,
         &[
@@ -557,7 +578,7 @@ fn all_kinds(heap: Global) -> Result<Desk, Fail> {
 
 #[test]
 fn what_was_told_opens_as_a_table(rt: HostRuntime) -> Result<(), Fail> {
-    let sheet = opened(all_kinds(rt.alloc())?)?;
+    let sheet = opened(all_kinds(&rt, rt.alloc())?)?;
     check_sheet(
         &rt,
         &sheet,
@@ -654,7 +675,7 @@ fn a_broken_table_is_handed_back(rt: HostRuntime) -> Result<(), Fail> {
 /// `close` is handed another table than `open`, and no Group stands there; and then the first table again.
 #[test]
 fn another_table_is_harmless(rt: HostRuntime) -> Result<(), Fail> {
-    let mut desk = told(rt.alloc(), 3, &[(GROUP, At(0))])?;
+    let mut desk = told(&rt, rt.alloc(), 3, &[(GROUP, At(0))])?;
     let texts = Texts {
         sheet: &SHEET,
         template: &TEMPLATE,
@@ -664,9 +685,9 @@ fn another_table_is_harmless(rt: HostRuntime) -> Result<(), Fail> {
         stamp: 4,
     };
     let mut other = [name; 3];
-    check_answer(desk.filling.fill(&mut other, texts, CLOSE), At(1))?;
+    check_answer(&rt, desk.filling.fill(&mut other, texts, CLOSE), At(1))?;
     assert!(rt; other.as_slice() == [name, Slot::End { distance: 1 }, name].as_slice());
-    desk.run(rt.alloc(), &[(Call::Seal, At(2))])?;
+    desk.run(&rt, rt.alloc(), &[(Call::Seal, At(2))])?;
     assert!(rt;
         desk.parts.entries.as_slice() == [group(0), OLD, Slot::End { distance: 0 }].as_slice()
     );
@@ -676,15 +697,15 @@ fn another_table_is_harmless(rt: HostRuntime) -> Result<(), Fail> {
 /// A shorter table is refused, and the table from before is taken again.
 #[test]
 fn a_shorter_table_later_is_harmless(rt: HostRuntime) -> Result<(), Fail> {
-    let mut desk = told(rt.alloc(), 4, &[(GROUP, At(0)), (NAME_A, At(1))])?;
+    let mut desk = told(&rt, rt.alloc(), 4, &[(GROUP, At(0)), (NAME_A, At(1))])?;
     let texts = Texts {
         sheet: &SHEET,
         template: &TEMPLATE,
     };
     let mut short = [OLD; 3];
-    check_answer(desk.filling.fill(&mut short, texts, CLOSE), By(9))?;
+    check_answer(&rt, desk.filling.fill(&mut short, texts, CLOSE), By(9))?;
     assert!(rt; short.as_slice() == [OLD; 3].as_slice());
-    desk.run(rt.alloc(), &[(CLOSE, At(2)), (Call::Seal, At(3))])?;
+    desk.run(&rt, rt.alloc(), &[(CLOSE, At(2)), (Call::Seal, At(3))])?;
     check_sheet(
         &rt,
         &opened(desk)?,
@@ -702,9 +723,10 @@ fn a_shorter_table_later_is_harmless(rt: HostRuntime) -> Result<(), Fail> {
 fn a_long_table_is_filled_up_to_its_limit(rt: HostRuntime) -> Result<(), Fail> {
     let mut desk = Desk::new(rt.alloc(), 65540)?;
     for place in 0..65534usize {
-        check_answer(desk.put(NAME_A), At(place))?;
+        check_answer(&rt, desk.put(NAME_A), At(place))?;
     }
     desk.run(
+        &rt,
         rt.alloc(),
         &[(NAME_A, By(9)), (GROUP, By(9)), (Call::Seal, At(65534))],
     )?;

@@ -5,4 +5,4 @@
 #[cfg(test)]
 mod filled;
 #[cfg(test)]
-mod inside;
+mod groups;
