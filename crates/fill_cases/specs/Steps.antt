@@ -25,7 +25,7 @@ use Rattle.spelled.specs.declared.fault.SpelledFault.{SpelledFault}
 use Rattle.spelled.specs.declared.fault.SpelledFault.TheVariants.{NotASheet, Lawless, Memory}
 use Rattle.fill_cases.specs.Verbs.{verb_of_lem, only}
 use Rattle.fill_cases.specs.declared.answer.Answer.{Answer}
-use Rattle.fill_cases.specs.declared.answer.Answer.TheVariants.{Ok as IsOk, Wrote, NotOpened, NotFilled, NoGroup, Entries, Silent, Closed, Unknown}
+use Rattle.fill_cases.specs.declared.answer.Answer.TheVariants.{Ok as SaidOk, Wrote, NotOpened, NotFilled, NoGroup, Entries, Silent, Closed, Unknown}
 use Rattle.fill_cases.specs.declared.case.Case.{Case}
 use Rattle.fill_cases.specs.declared.case.Case.TheVariants.{Fresh as FreshCase, Packed as PackedCase, InPacked as InPackedCase, Table as TableCase, InTable as InTableCase, Filling as FillingCase, Closed as ClosedCase, Unknown as UnknownCase}
 use Rattle.fill_cases.specs.declared.verb.Verb.{Verb}
@@ -42,7 +42,7 @@ packed_opened (Ok s) = PackedCase s
 packed_opened (Err e) = ClosedCase
 
 abbrev pub packed_said : Result Packed PackedRefused → Answer
-packed_said (Ok s) = IsOk
+packed_said (Ok s) = SaidOk
 packed_said (Err e) = NotOpened e.fault
 
 abbrev pub OpensPacked : Vec ℕ Global → Case → Answer → Type 0
@@ -53,7 +53,7 @@ table_opened (Ok s) = TableCase s
 table_opened (Err e) = ClosedCase
 
 abbrev pub table_said : Result Table TableRefused → Answer
-table_said (Ok s) = IsOk
+table_said (Ok s) = SaidOk
 table_said (Err e) = NotOpened e.fault
 
 abbrev pub OpensTable : Parts → Case → Answer → Type 0
@@ -108,7 +108,7 @@ Begins VOther rest d b = NotKnown UnknownCase d b
 -- Into a group of the store. Where no group stands, the case goes on with the store as it was.
 
 abbrev pub entered_said : {A E : Type 0} → Result A E → Answer
-entered_said (Ok v) = IsOk
+entered_said (Ok v) = SaidOk
 entered_said (Err e) = NoGroup no_group_number
 
 abbrev pub packed_entered : Result (Inside Packed) (NoGroupThere Packed) → Case

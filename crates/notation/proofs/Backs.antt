@@ -1,7 +1,7 @@
 -- What is written of an entry is read back.
 use Rattle.std.proofs.Common.{◌≡◌, ℕ, ◌+◌, ◌-◌, ◌*◌, ◌/◌, ◌%◌, ◌^◌, ◌<◌, ◌≤◌, Bool, true, false, cond, eqb, leb, List, [], ◌∷◌, ◌++◌, length, Some, None, decimal, Option, sym, refl, ap, ◌∙◌, arith}
 use lib.Utf8.{scalar}
-use Rattle.std.specs.List.{AllByRecursion as All}
+use Rattle.std.specs.List.{AllByRecursion}
 use Rattle.std.proofs.lemmas.Fmt.{decimal_by_steps, decimal_nonempty}
 use Rattle.std.proofs.ByRecursion.{All-push}
 use Rattle.std.proofs.lemmas.Bool.{eq-eqb, ne_eqb, le-leb, and_from, cond-true, cond-false}
@@ -38,28 +38,28 @@ number_decimal n small =
     let some = decimal_nonempty n (omega arith) in
     sym (some_text (decimal n) (sym (ne_eqb (length (decimal n)) 0 (λ e. omega arith)))) ∙ fits_small n (decimal n) small (value_decimal n (omega arith))
 
-no_colon : (n : ℕ) → n < 2 ^ 64 → All (λ b. b ≡ 58 → ⊥) (decimal n)
+no_colon : (n : ℕ) → n < 2 ^ 64 → AllByRecursion (λ b. b ≡ 58 → ⊥) (decimal n)
 no_colon =
-    decimal_by_steps (λ m ds. All (λ b. b ≡ 58 → ⊥) ds) (λ m l. ((λ e. omega arith), tt)) (λ m ds l h. All-push (λ b. b ≡ 58 → ⊥) ds (48 + m % 10) h (λ e. omega arith))
+    decimal_by_steps (λ m ds. AllByRecursion (λ b. b ≡ 58 → ⊥) ds) (λ m l. ((λ e. omega arith), tt)) (λ m ds l h. All-push (λ b. b ≡ 58 → ⊥) ds (48 + m % 10) h (λ e. omega arith))
 
 -- a part in which no separator stands, before a separator and at the end
 
-front_of : (s : ℕ) (p t : List ℕ) → All (λ b. b ≡ s → ⊥) p → front s (p ++ (s ∷ t)) ≡ p
+front_of : (s : ℕ) (p t : List ℕ) → AllByRecursion (λ b. b ≡ s → ⊥) p → front s (p ++ (s ∷ t)) ≡ p
 unfolding front
 front_of s [] t h = cond-true (eqb s s) _ _ (eq-eqb s s refl)
 front_of s (b ∷ p) t h = cond-false (eqb b s) _ _ (ne_eqb b s h.0) ∙ ap (λ l. b ∷ l) (front_of s p t h.1)
 
-behind_of : (s : ℕ) (p t : List ℕ) → All (λ b. b ≡ s → ⊥) p → behind s (p ++ (s ∷ t)) ≡ Some t
+behind_of : (s : ℕ) (p t : List ℕ) → AllByRecursion (λ b. b ≡ s → ⊥) p → behind s (p ++ (s ∷ t)) ≡ Some t
 unfolding behind
 behind_of s [] t h = cond-true (eqb s s) _ _ (eq-eqb s s refl)
 behind_of s (b ∷ p) t h = cond-false (eqb b s) _ _ (ne_eqb b s h.0) ∙ behind_of s p t h.1
 
-front_only : (s : ℕ) (p : List ℕ) → All (λ b. b ≡ s → ⊥) p → front s (p ++ []) ≡ p
+front_only : (s : ℕ) (p : List ℕ) → AllByRecursion (λ b. b ≡ s → ⊥) p → front s (p ++ []) ≡ p
 unfolding front
 front_only s [] h = refl
 front_only s (b ∷ p) h = cond-false (eqb b s) _ _ (ne_eqb b s h.0) ∙ ap (λ l. b ∷ l) (front_only s p h.1)
 
-behind_only : (s : ℕ) (p : List ℕ) → All (λ b. b ≡ s → ⊥) p → behind s (p ++ []) ≡ None
+behind_only : (s : ℕ) (p : List ℕ) → AllByRecursion (λ b. b ≡ s → ⊥) p → behind s (p ++ []) ≡ None
 unfolding behind
 behind_only s [] h = refl
 behind_only s (b ∷ p) h = cond-false (eqb b s) _ _ (ne_eqb b s h.0) ∙ behind_only s p h.1
@@ -69,15 +69,15 @@ abbrev fields : List ℕ → Option (List ℕ)
 fields [] = None
 fields (n ∷ ns) = Some (decimal n ++ after_colons ns)
 
-front_part : (p ns : List ℕ) → All (λ b. b ≡ 58 → ⊥) p → front 58 (p ++ after_colons ns) ≡ p
+front_part : (p ns : List ℕ) → AllByRecursion (λ b. b ≡ 58 → ⊥) p → front 58 (p ++ after_colons ns) ≡ p
 front_part p [] h = front_only 58 p h
 front_part p (n ∷ ns) h = front_of 58 p (decimal n ++ after_colons ns) h
 
-behind_part : (p ns : List ℕ) → All (λ b. b ≡ 58 → ⊥) p → behind 58 (p ++ after_colons ns) ≡ fields ns
+behind_part : (p ns : List ℕ) → AllByRecursion (λ b. b ≡ 58 → ⊥) p → behind 58 (p ++ after_colons ns) ≡ fields ns
 behind_part p [] h = behind_only 58 p h
 behind_part p (n ∷ ns) h = behind_of 58 p (decimal n ++ after_colons ns) h
 
-numbers_back : (ns : List ℕ) → All (λ n. n ≤ 4294967295) ns → numbers_of (length ns) 58 (fields ns) ≡ Some ns
+numbers_back : (ns : List ℕ) → AllByRecursion (λ n. n ≤ 4294967295) ns → numbers_of (length ns) 58 (fields ns) ≡ Some ns
 unfolding numbers_of
 numbers_back [] h = refl
 numbers_back (n ∷ ns) h =

@@ -1,7 +1,7 @@
 -- The notation of a table's entries.
 use Rattle.std.specs.Prelude.{◌≡◌, ℕ, ◌≤◌, true, cond, List, [], ◌∷◌, ◌++◌, Some, None, codes, decimal, Option, slice_index}
 use Rattle.std.proofs.Math.Utf8.{scalar}
-use Rattle.std.specs.List.{AllByRecursion as All}
+use Rattle.std.specs.List.{AllByRecursion}
 use Rattle.std.specs.Str.{bytes_eq}
 use Rattle.table.specs.declared.slot.Slot.{Slot}
 use Rattle.table.specs.declared.slot.Slot.TheVariants.{Group, Name, Mark, Literal, End}
@@ -84,4 +84,4 @@ Character (End distance) = Unit {0}
 
 -- An entry whose numbers have 32 bits is read back from what is written of it.
 abbrev pub ReadsBack : Slot → Type 0
-ReadsBack s = All (λ n. n ≤ 4294967295) (slot_numbers s) → Character s → slot_of (slot_text s) ≡ Some s
+ReadsBack s = AllByRecursion (λ n. n ≤ 4294967295) (slot_numbers s) → Character s → slot_of (slot_text s) ≡ Some s

@@ -1,6 +1,6 @@
 -- Texts whose parts stand between separators.
 use Rattle.std.specs.Prelude.{◌≡◌, ℕ, cond, List, [], ◌∷◌, ◌++◌, Some, None, Option, ◌==◌, ◌≢◌}
-use Rattle.std.specs.List.{AllByRecursion as All}
+use Rattle.std.specs.List.{AllByRecursion}
 
 -- What stands before the first separator.
 unfoldable pub front : ℕ → List ℕ → List ℕ
@@ -33,5 +33,5 @@ parts_left s (Some text) = parts s text
 
 -- A text is its first part alone, or its first part, a separator and the rest. No separator stands in the first part.
 abbrev pub Cut : ℕ → List ℕ → List ℕ → Option (List ℕ) → Type 0
-Cut s text part None = All (λ b. b ≢ s) part × (text ≡ part)
-Cut s text part (Some rest) = All (λ b. b ≢ s) part × (text ≡ part ++ (s ∷ rest))
+Cut s text part None = AllByRecursion (λ b. b ≢ s) part × (text ≡ part)
+Cut s text part (Some rest) = AllByRecursion (λ b. b ≢ s) part × (text ≡ part ++ (s ∷ rest))

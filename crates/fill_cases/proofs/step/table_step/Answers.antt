@@ -1,12 +1,12 @@
 use Rattle.std.proofs.Common.{ℕ, Ok, Err, Option, refl, ap, subst}
 use Rattle.fill_cases.specs.Steps.{StepsTable}
-use Rattle.fill_cases.specs.declared.answer.Answer.TheVariants.{Ok as IsOk, NoGroup}
+use Rattle.fill_cases.specs.declared.answer.Answer.TheVariants.{Ok as SaidOk, NoGroup}
 use Rattle.fill_cases.specs.declared.case.Case.TheVariants.{InTable, Table}
 use Rattle.fill_cases.proofs.step.table_step.Goals as goal
 
 pub returns-in-Ok : goal.returns-in-Ok
 returns-in-Ok c =
-    subst (λ (o : Option ℕ). StepsTable c.args.store o (InTable c.in-Ok.inside) IsOk) c.in-Some.ensures (Ok c.in-Ok.inside, c.in-Ok.ensures, (refl, refl))
+    subst (λ (o : Option ℕ). StepsTable c.args.store o (InTable c.in-Ok.inside) SaidOk) c.in-Some.ensures (Ok c.in-Ok.inside, c.in-Ok.ensures, (refl, refl))
 
 pub returns-in-Err : goal.returns-in-Err
 returns-in-Err c =
