@@ -30,8 +30,8 @@ pub(crate) fn start_of_text(bytes: &[u8]) -> usize
 
 /// Whether every pair is good: not empty, behind the one before, within the text.
 fn are_pairs_good(bytes: &[u8]) -> bool
-    requires in_bounds { 5 ≤ length bytes.now }
-    requires bytes_in_bounds { text_from bytes.now ≤ length bytes.now }
+    requires has_head { 5 ≤ length bytes.now }
+    requires has_pairs { text_from bytes.now ≤ length bytes.now }
     ensures { result ≡ good_pairs bytes.now (pair_count bytes.now) }
 {
     let start = start_of_pairs(bytes);
