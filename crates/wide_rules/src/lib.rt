@@ -1,5 +1,5 @@
-//! The flat rules: which lists of entries are the flat form of a sheet that keeps the limits. They are judged once, here,
-//! for every make of entry.
+//! The flat rules once more, with 32-bit numbers for the delimiter of a group and the spacing of a mark, as entries of a
+//! table have them.
 #![tactic(auto)]
 
 ghost use Rattle.std.specs.Prelude.{◌≡◌, ℕ, false, [], length};
