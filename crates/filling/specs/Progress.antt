@@ -1,6 +1,6 @@
 -- How far a filling has come.
 use Rattle.std.specs.Prelude.{ℕ, List, []}
-use Rattle.wide_rules.specs.Walks.{stack}
+use Rattle.rules.specs.Walks.{stack}
 use Rattle.filling.specs.declared.call.State.{State}
 use Rattle.filling.specs.declared.call.State.TheVariants.{Open}
 use Rattle.filling.specs.declared.filling.Filling.{Filling}

@@ -12,7 +12,7 @@ use crate::call::{Call, State};
 use crate::fault::FillFault;
 use crate::filling::Filling;
 use table::{Slot, TextPlace, Texts};
-use wide_rules::{DEEPEST, MOST, is_legal_mark};
+use rules::{DEEPEST, MOST, is_legal_mark};
 
 /// A Group with its distance and its closing stamp. Another table may be handed to `close` than to `open`; then the entry there
 /// may be no Group, and is left as it is.

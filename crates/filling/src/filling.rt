@@ -2,7 +2,7 @@
 ghost use Rattle.std.specs.Prelude.{◌≡◌, ℕ, ◌<◌, ◌≤◌, length, slice_index};
 
 use crate::call::State;
-use wide_rules::DEEPEST;
+use rules::DEEPEST;
 
 /// A filling: how far it has come, and the places of the groups that are open, the innermost last.
 #[derive(Drop)]

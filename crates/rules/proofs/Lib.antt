@@ -1,4 +1,4 @@
 pub mod Judging
 pub mod Offences
 pub mod Sheets
-pub mod Stacks
+pub mod Verdicts

@@ -1,19 +1,18 @@
--- Lawful entries and sheets that keep the limits are the same thing.
+-- lawful entries and sheets that keep the limits are the same thing.
+use Rattle.std.specs.Prelude.{Ok, Err}
 use Rattle.std.proofs.Common.{◌≡◌, ℕ, zero, suc, ◌+◌, ◌≤◌, Bool, true, false, cond, not, eqb, ltb, leb, ◌⊎◌, List, [], ◌∷◌, length, sym, refl, ap, ◌∙◌, subst, inl, inr, ⊎_elim, add-zero, arith}
 use Rattle.std.proofs.lemmas.Bool.{and_parts, and_from, leb-true, ltb-true, le-leb, lt-ltb}
 use Rattle.std.proofs.lemmas.Bool.Decides.{Decides-eqb, nat_tests}
 use Rattle.sheet.specs.Trees.{Trees, nil, name, mark, literal, group, size, depth}
 use Rattle.sheet.specs.Entries.{Entry, Group, Name, Mark, Literal, End, Nothing, flat, entries, at}
-use Rattle.sheet.specs.Limits.{legal_mark, apostrophe, StartsWithName, Sound, KeepsLimits}
+use Rattle.sheet.specs.Limits.{among, mark_characters, legal_mark, apostrophe, StartsWithName, Sound, KeepsLimits, LegalFields}
 use Rattle.sheet.proofs.Forms.{own_sheet}
 use Rattle.sheet.proofs.Places.{at_past}
 use Rattle.rules.specs.Looks.{look_of}
-use Rattle.rules.specs.Rules.{Walk, walk, Next, on, done, bad, matches, step, after, judge, verdict, is_lawful}
+use Rattle.rules.specs.Rules.{Verdict, lawful, offending, Walk, walk, Next, on, done, bad, matches, step, after, judge, verdict, is_lawful}
 use Rattle.rules.specs.Verdicts.{OneLawfulSheet, SomeLawfulSheet}
 use Rattle.sheet.specs.declared.fault.Rule.{Rule}
 use Rattle.sheet.specs.declared.fault.Rule.TheVariants.{TooMany, UnknownKind, NameWanted, EndTooEarly}
-use Rattle.rules.specs.declared.look.Verdict.{Verdict}
-use Rattle.rules.specs.declared.look.Verdict.TheVariants.{Lawful, Offends}
 use Rattle.rules.specs.declared.walk.Open.{Open}
 
 -- What trees keep to where w says that an apostrophe stands before them and n groups are open around them.
@@ -24,7 +23,7 @@ record Keeps {St : Type 0} (w : Bool) (n : ℕ) (t : Trees St) : Type 0 where
 
 -- From lawful entries to a sheet.
 
-passes : {St : Type 0} (b : Bool) (m : Next) (rule : Rule) (p : ℕ) (es : List (Entry St)) (go : Walk → Verdict) → after (cond b m (bad rule)) p es go ≡ Lawful → (b ≡ true) × (after m p es go ≡ Lawful)
+passes : {St : Type 0} (b : Bool) (m : Next) (rule : Rule) (p : ℕ) (es : List (Entry St)) (go : Walk → Verdict) → after (cond b m (bad rule)) p es go ≡ lawful → (b ≡ true) × (after m p es go ≡ lawful)
 passes true m rule p es go h = (refl, h)
 passes false m rule p es go h = let z : ◌≡◌ {A = ℕ} 0 1 = cc in absurd (omega arith)
 
@@ -73,14 +72,14 @@ matched : (p x : ℕ) (o : Open) → matches p x o ≡ true → (x ≡ o.claims)
 unfolding matches
 matched p x o h = let z = and_parts _ _ h in ((Decides-eqb _ _).0 z.0, (Decides-eqb _ _).0 z.1)
 
-not_waiting : {St : Type 0} (w : Bool) (m : Next) (p : ℕ) (es : List (Entry St)) (go : Walk → Verdict) → after (cond w (bad NameWanted) m) p es go ≡ Lawful → (not w ≡ true) × (after m p es go ≡ Lawful)
+not_waiting : {St : Type 0} (w : Bool) (m : Next) (p : ℕ) (es : List (Entry St)) (go : Walk → Verdict) → after (cond w (bad NameWanted) m) p es go ≡ lawful → (not w ≡ true) × (after m p es go ≡ lawful)
 not_waiting true m p es go h = let z : ◌≡◌ {A = ℕ} 0 1 = cc in absurd (omega arith)
 not_waiting false m p es go h = (refl, h)
 
-from_lawful : {St : Type 0} (w : Bool) (p : ℕ) (st : List Open) (es : List (Entry St)) → length st ≤ 60 → judge (walk w st) p es ≡ Lawful → Reads St w p st es
+from_lawful : {St : Type 0} (w : Bool) (p : ℕ) (st : List Open) (es : List (Entry St)) → length st ≤ 60 → judge (walk w st) p es ≡ lawful → Reads St w p st es
 from_lawful w p st [] few h = let z : ◌≡◌ {A = ℕ} 0 1 = cc in absurd (omega arith)
 from_lawful w p st (Nothing ∷ es) few h =
-    let y : Offends p UnknownKind ≡ Lawful = (not_waiting w _ p es _ h).1 in
+    let y : offending p UnknownKind ≡ lawful = (not_waiting w _ p es _ h).1 in
     let z : ◌≡◌ {A = ℕ} 0 1 = cc in absurd (omega arith)
 from_lawful w p st (Group x d a b c ∷ es) few h =
     let n = not_waiting w _ p es _ h in
@@ -127,7 +126,7 @@ from_lawful w p [] (End x ∷ []) few h =
     record { top = nil; rest = []; is = ap (λ m. End m ∷ []) (sym e); keeps = record { names = clear w n.0; sound = tt; shallow = omega arith }; fit = tt }
 from_lawful w p [] (End x ∷ e ∷ es) few h =
     let n = not_waiting w _ p (e ∷ es) _ h in
-    let y : Offends p EndTooEarly ≡ Lawful = (passes (eqb x 0) done _ p (e ∷ es) _ n.1).1 in
+    let y : offending p EndTooEarly ≡ lawful = (passes (eqb x 0) done _ p (e ∷ es) _ n.1).1 in
     let z : ◌≡◌ {A = ℕ} 0 1 = cc in absurd (omega arith)
 from_lawful w p (o ∷ st) (End x ∷ es) few h =
     let n = not_waiting w _ p es _ h in
@@ -147,11 +146,11 @@ one_level : {St : Type 0} (es : List (Entry St)) (top : Trees St) (rest : List (
 one_level es top [] is fit = is
 one_level es top (t ∷ ls) is fit = absurd fit
 
-is_judged : (b : Bool) (v : Verdict) → cond b v (Offends 0 TooMany) ≡ Lawful → (b ≡ true) × (v ≡ Lawful)
+is_judged : (b : Bool) (v : Verdict) → cond b v (offending 0 TooMany) ≡ lawful → (b ≡ true) × (v ≡ lawful)
 is_judged true v h = (refl, h)
 is_judged false v h = let z : ◌≡◌ {A = ℕ} 0 1 = cc in absurd (omega arith)
 
-pub one_lawful_sheet : {St : Type 0} (es : List (Entry St)) → verdict es ≡ Lawful → OneLawfulSheet es
+pub one_lawful_sheet : {St : Type 0} (es : List (Entry St)) → verdict es ≡ lawful → OneLawfulSheet es
 one_lawful_sheet es h =
     let v = is_judged (leb (length es) 65535) _ h in
     let r = from_lawful false 0 [] es (omega arith) v.1 in
@@ -212,37 +211,47 @@ judge_flat (group d a b c i r) w p st es k =
     ∙ judge_flat r false (suc q) st es (record { names = nobody; sound = k.sound.2; shallow = let e = k.shallow in omega arith })
     ∙ ap (λ n. judge (walk false st) n es) (omega arith)
 
-pub every_lawful_sheet : {St : Type 0} (es : List (Entry St)) → SomeLawfulSheet es → verdict es ≡ Lawful
+pub every_lawful_sheet : {St : Type 0} (es : List (Entry St)) → SomeLawfulSheet es → verdict es ≡ lawful
 every_lawful_sheet es (t, k, e) =
     let few : leb (length es) 65535 ≡ true = let l = ap length e in let f = k.few in grind (arith, nat_tests) in
     let passed = judge_flat t false 0 [] (End 0 ∷ []) (record { names = nobody; sound = k.sound; shallow = omega (arith, k.shallow) }) in
-    ap (λ x. cond x (judge (walk false []) 0 es) (Offends 0 TooMany)) few ∙ ap (judge (walk false []) 0) (sym e) ∙ passed
+    ap (λ x. cond x (judge (walk false []) 0 es) (offending 0 TooMany)) few ∙ ap (judge (walk false []) 0) (sym e) ∙ passed
 
--- What is judged lawful has lawful marks only.
+-- What is judged lawful has legal fields at every place.
 
-is_so : (v : Verdict) → is_lawful v ≡ true → v ≡ Lawful
-is_so Lawful h = refl
-is_so (Offends p rule) h = nobody h
+is_so : (v : Verdict) → is_lawful v ≡ true → v ≡ lawful
+is_so (Ok u) h = refl
+is_so (Err o) h = nobody h
 
-pub lawful_verdict : {St : Type 0} (es : List (Entry St)) → is_lawful (verdict es) ≡ true → verdict es ≡ Lawful
+pub lawful_verdict : {St : Type 0} (es : List (Entry St)) → is_lawful (verdict es) ≡ true → verdict es ≡ lawful
 lawful_verdict es h = is_so (verdict es) h
 
-goes : {St : Type 0} (n : Next) (p : ℕ) (es : List (Entry St)) → after n p es (λ v. judge v (suc p) es) ≡ Lawful → (es ≡ []) ⊎ ((v : Walk) × (judge v (suc p) es ≡ Lawful))
+goes : {St : Type 0} (n : Next) (p : ℕ) (es : List (Entry St)) → after n p es (λ v. judge v (suc p) es) ≡ lawful → (es ≡ []) ⊎ ((v : Walk) × (judge v (suc p) es ≡ lawful))
 goes (on v) p es h = inr (v, h)
 goes done p [] h = inl refl
 goes done p (e ∷ es) h = let z : ◌≡◌ {A = ℕ} 0 1 = cc in absurd (omega arith)
 goes (bad rule) p es h = let z : ◌≡◌ {A = ℕ} 0 1 = cc in absurd (omega arith)
 
-each_mark : {St : Type 0} (w : Walk) (p : ℕ) (es : List (Entry St)) (k c s : ℕ) (x : St) → judge w p es ≡ Lawful → at es k ≡ Mark c s x → legal_mark c s ≡ true
-each_mark w p [] k c s x h e = let z : ◌≡◌ {A = ℕ} 0 1 = cc in absurd (omega arith)
-each_mark w p (e ∷ es) zero c s x h is =
-    let f : judge w p (Mark c s x ∷ es) ≡ Lawful = ap (λ m. judge w p (m ∷ es)) (sym is) ∙ h in
-    (passes _ _ _ p es _ (not_waiting w.waiting _ p es _ f).1).0
-each_mark w p (e ∷ es) (suc k) c s x h is =
+legal_here : {St : Type 0} (w : Walk) (p : ℕ) (e : Entry St) (es : List (Entry St)) → judge w p (e ∷ es) ≡ lawful → LegalFields e
+legal_here w p (Group x d a b c) es h = leb-true _ _ (passes (leb d 3) _ _ p es _ (not_waiting w.waiting _ p es _ h).1).0
+legal_here w p (Name b s) es h = (passes _ _ _ p es _ h).0
+legal_here w p (Mark c k s) es h = (passes _ _ _ p es _ (not_waiting w.waiting _ p es _ h).1).0
+legal_here w p (Literal b s) es h = (passes _ _ _ p es _ (not_waiting w.waiting _ p es _ h).1).0
+legal_here w p (End x) es h = tt
+legal_here w p Nothing es h = tt
+
+each_legal : {St : Type 0} (w : Walk) (p : ℕ) (es : List (Entry St)) (k : ℕ) → judge w p es ≡ lawful → LegalFields (at es k)
+each_legal w p [] k h = let z : ◌≡◌ {A = ℕ} 0 1 = cc in absurd (omega arith)
+each_legal w p (e ∷ es) zero h = legal_here w p e es h
+each_legal {St} w p (e ∷ es) (suc k) h =
     ⊎_elim
-    (λ none. let f : at [] k ≡ Mark c s x = ap (λ l. at l k) (sym none) ∙ is in let y = sym (at_past [] k (omega arith)) ∙ f in let z : ◌≡◌ {A = ℕ} 0 1 = cc in absurd (omega arith))
-    (λ v. each_mark v.0 (suc p) es k c s x v.1 is)
+    (λ none. let past : at [] k ≡ Nothing = at_past [] k (omega arith) in subst (λ (f : Entry St). LegalFields f) (sym (ap (λ l. at l k) none ∙ past)) tt)
+    (λ v. each_legal v.0 (suc p) es k v.1)
     (goes (step w p (look_of e)) p es h)
 
-pub mark_legal : {St : Type 0} (es : List (Entry St)) (k c s : ℕ) (x : St) → verdict es ≡ Lawful → at es k ≡ Mark c s x → legal_mark c s ≡ true
-mark_legal es k c s x h is = each_mark (walk false []) 0 es k c s x (is_judged (leb (length es) 65535) _ h).1 is
+pub legal_there : {St : Type 0} (es : List (Entry St)) (k : ℕ) → verdict es ≡ lawful → LegalFields (at es k)
+legal_there es k h = each_legal (walk false []) 0 es k (is_judged (leb (length es) 65535) _ h).1
+
+pub legal_spacing : (c k : ℕ) → legal_mark c k ≡ true → leb k 1 ≡ true
+unfolding legal_mark
+legal_spacing c k h = (and_parts (leb k 1) _ (and_parts (among c mark_characters) _ h).1).0

@@ -6,8 +6,7 @@ use Rattle.sheet.specs.Forms.{FlatFormOf}
 use Rattle.sheet.specs.Limits.{KeepsLimits}
 use Rattle.sheet.specs.declared.fault.Rule.{Rule}
 use Rattle.sheet.specs.declared.fault.Rule.TheVariants.{EndMissing}
-use Rattle.rules.specs.Rules.{verdict}
-use Rattle.rules.specs.declared.look.Verdict.TheVariants.{Offends}
+use Rattle.rules.specs.Rules.{verdict, offending}
 
 -- The entries are the flat form of exactly one sheet, and it keeps the limits.
 pub record OneLawfulSheet {St : Type 0} (es : List (Entry St)) : Type 0 where
@@ -22,5 +21,5 @@ SomeLawfulSheet {St} es = (t : Trees St) × KeepsLimits t × FlatFormOf es t
 -- The place is the first to offend, and this is the rule. The entries before it have no fault but that a last End is missing behind them; and if
 -- there are not too many entries and one stands at the place, then that one is at fault by the rule, whatever else may stand behind it.
 pub record FirstOffence {St : Type 0} (es : List (Entry St)) (place : ℕ) (rule : Rule) : Type 0 where
-  pub before : verdict (take place es) ≡ Offends place EndMissing
-  pub there : length es ≤ 65535 → place < length es → (more : List (Entry St)) → 0 < length more → length (take (suc place) es ++ more) ≤ 65535 → verdict (take (suc place) es ++ more) ≡ Offends place rule
+  pub before : verdict (take place es) ≡ offending place EndMissing
+  pub there : length es ≤ 65535 → place < length es → (more : List (Entry St)) → 0 < length more → length (take (suc place) es ++ more) ≤ 65535 → verdict (take (suc place) es ++ more) ≡ offending place rule

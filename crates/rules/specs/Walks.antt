@@ -1,23 +1,16 @@
 -- What the code's walk stands for.
-use Rattle.std.specs.Prelude.{ℕ, zero, suc, List, [], ◌∷◌, slice_index_or}
+use Rattle.std.specs.Prelude.{reverse, Result, Ok, Err}
+use Rattle.sheet.specs.declared.fault.Rule.{Rule}
 use Rattle.rules.specs.Rules.{Walk, walk, Next, on, done, bad}
-use Rattle.rules.specs.declared.walk.Open.{Open}
 use Rattle.rules.specs.declared.walk.Walk.{Walk as Held}
 use Rattle.rules.specs.declared.walk.Next.{Next as Said}
-use Rattle.rules.specs.declared.walk.Next.TheVariants.{On, Done, Bad}
+use Rattle.rules.specs.declared.walk.Next.TheVariants.{On, Done}
 
-abbrev pub nowhere : Open
-nowhere = record { from = 0; claims = 0 }
-
--- The first n of the groups, the last of them innermost.
-abbrev pub stack : List Open → ℕ → List Open
-stack gs zero = []
-stack gs (suc n) = slice_index_or gs n nowhere ∷ stack gs n
-
+-- The open groups are held with the innermost last.
 abbrev pub walk_of : Held → Walk
-walk_of h = walk h.waiting (stack h.groups h.depth)
+walk_of h = walk h.waiting (reverse h.open_groups.items)
 
-abbrev pub next_of : Said → Walk → Next
-next_of On w = on w
-next_of Done w = done
-next_of (Bad rule) w = bad rule
+abbrev pub next_of : Result Said Rule → Walk → Next
+next_of (Ok On) w = on w
+next_of (Ok Done) w = done
+next_of (Err rule) w = bad rule

@@ -14,6 +14,7 @@ pub trait Entries {
     fn len(&self) -> usize
         ensures { result ≡ length (listed self.now) };
 
-    fn look(&self, at: usize) -> Look
+    /// The entry at a place; none past the end, or if it is of a kind that nobody knows.
+    fn look(&self, at: usize) -> Option<Look>
         ensures { result ≡ look_of (entry_at (listed self.now) at) };
 }

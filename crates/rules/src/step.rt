@@ -1,15 +1,16 @@
 //! The judge's walk over the entries, one entry at a time.
 ghost use Rattle.std.specs.Prelude.{◌≡◌, false, []};
 ghost use Rattle.sheet.specs.Limits.{legal_mark, legal_text};
-ghost use Rattle.rules.specs.Rules.{walk, step as step_rule, close as closing_rule, waits as waits_for, matches};
+ghost use Rattle.rules.specs.Rules.{walk, step as step_rule, open_group as opening_rule, close as closing_rule, waits as waits_for, matches};
 ghost use Rattle.rules.specs.Walks.{walk_of, next_of};
 
 use crate::look::Look;
-use crate::walk::{DEEPEST, Next, Open, Walk};
+use crate::walk::{Next, Open, Walk};
+use arrayvec::ArrayVec;
 use sheet::Rule;
 
 /// Whether a mark may have this character and this spacing. An apostrophe begins a lifetime, so it is never alone.
-pub fn is_legal_mark(character: char, spacing: u8) -> bool
+pub fn is_legal_mark(character: char, spacing: u32) -> bool
     ensures { result ≡ legal_mark character spacing }
 {
     match character {
@@ -58,86 +59,79 @@ impl Walk {
     {
         Walk {
             waiting: false,
-            depth: 0,
-            groups: [Open { from: 0, claims: 0 }; DEEPEST],
+            open_groups: ArrayVec::new(),
         }
     }
 
     /// Whether an apostrophe waits for its name and this is none.
-    fn waits(&self, look: Look) -> bool
+    fn waits(&self, look: Option<Look>) -> bool
         ensures { result ≡ waits_for (walk_of self.now) look }
     {
         match look {
-            Look::Name { .. } => false,
+            Some(Look::Name { .. }) => false,
             _ => self.waiting,
         }
     }
 
     /// Takes the entry at a place.
-    pub(crate) fn step(&mut self, at: usize, look: Look) -> Next
+    #[tactic(auto, unfolding(sheet::specs::Limits::apostrophe))]
+    pub(crate) fn step(&mut self, at: usize, look: Option<Look>) -> Result<Next, Rule>
         ensures { next_of result (walk_of self.new) ≡ step_rule (walk_of self.old) at look }
     {
         if self.waits(look) {
-            return Next::Bad(Rule::NameWanted);
+            return Err(Rule::NameWanted);
         }
-        match look {
+        match look.ok_or(Rule::UnknownKind)? {
             Look::Group {
                 delimiter,
                 distance,
-            } => {
-                if delimiter > 3 {
-                    return Next::Bad(Rule::Delimiter);
-                }
-                if self.depth >= DEEPEST {
-                    return Next::Bad(Rule::TooDeep);
-                }
-                self.groups[self.depth] = Open {
-                    from: at,
-                    claims: distance,
-                };
-                self.depth += 1;
-                Next::On
-            }
-            Look::Name { good } => {
-                if !good {
-                    return Next::Bad(Rule::Text);
-                }
+            } => self.open(at, delimiter, distance),
+            Look::Name { good: true } => {
                 self.waiting = false;
-                Next::On
+                Ok(Next::On)
             }
-            Look::Mark { character, spacing } => {
-                if !is_legal_mark(character, spacing) {
-                    return Next::Bad(Rule::Mark);
-                }
+            Look::Mark { character, spacing } if is_legal_mark(character, spacing) => {
                 self.waiting = character == '\'';
-                Next::On
+                Ok(Next::On)
             }
-            Look::Literal { good } => {
-                if !good {
-                    return Next::Bad(Rule::Text);
-                }
-                Next::On
-            }
+            Look::Literal { good: true } => Ok(Next::On),
             Look::End { distance } => self.close(at, distance),
-            Look::Nothing => Next::Bad(Rule::UnknownKind),
+            Look::Mark { .. } => Err(Rule::Mark),
+            Look::Name { good: false } | Look::Literal { good: false } => Err(Rule::Text),
         }
     }
 
-    fn close(&mut self, at: usize, distance: usize) -> Next
+    /// Takes a Group.
+    fn open(&mut self, at: usize, delimiter: u32, distance: usize) -> Result<Next, Rule>
+        ensures { next_of result (walk_of self.new) ≡ opening_rule (walk_of self.old) at delimiter distance }
+    {
+        if delimiter > 3 {
+            return Err(Rule::Delimiter);
+        }
+        let group = Open {
+            from: at,
+            claims: distance,
+        };
+        match self.open_groups.try_push(group) {
+            Ok(()) => {
+                self.waiting = false;
+                Ok(Next::On)
+            }
+            Err(_) => Err(Rule::TooDeep),
+        }
+    }
+
+    /// Takes an End.
+    fn close(&mut self, at: usize, distance: usize) -> Result<Next, Rule>
         ensures { next_of result (walk_of self.new) ≡ closing_rule at distance (walk_of self.old).open_groups }
     {
-        if self.depth == 0 {
-            return if distance == 0 {
-                Next::Done
-            } else {
-                Next::Bad(Rule::Distance)
-            };
+        match self.open_groups.pop() {
+            Some(group) if is_matching(at, distance, group) => {
+                self.waiting = false;
+                Ok(Next::On)
+            }
+            None if distance == 0 => Ok(Next::Done),
+            _ => Err(Rule::Distance),
         }
-        if !is_matching(at, distance, self.groups[self.depth - 1]) {
-            return Next::Bad(Rule::Distance);
-        }
-        self.waiting = false;
-        self.depth -= 1;
-        Next::On
     }
 }

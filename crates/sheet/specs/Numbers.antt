@@ -1,9 +1,10 @@
 -- The numbers of the code's enums, and of the refusals of opening a store.
-use Rattle.std.specs.Prelude.{ℕ}
+use Rattle.std.specs.Prelude.{◌≡◌, ℕ, ◌<◌, Result, MatchResult}
 use Rattle.sheet.specs.declared.kind.EntryKind.{EntryKind}
 use Rattle.sheet.specs.declared.kind.EntryKind.TheVariants.{Group, Name, Mark, Literal, End, Nothing}
 use Rattle.sheet.specs.declared.kind.Delimiter.{Delimiter}
 use Rattle.sheet.specs.declared.kind.Delimiter.TheVariants.{Invisible, Parenthesis, Brace, Bracket}
+use Rattle.sheet.specs.declared.kind.UnknownDelimiter.{UnknownDelimiter}
 use Rattle.sheet.specs.declared.kind.Spacing.{Spacing}
 use Rattle.sheet.specs.declared.kind.Spacing.TheVariants.{Alone, Joint}
 use Rattle.sheet.specs.declared.fault.StoreFault.{StoreFault}
@@ -22,6 +23,10 @@ delimiter_number Invisible = 0
 delimiter_number Parenthesis = 1
 delimiter_number Brace = 2
 delimiter_number Bracket = 3
+
+-- A number gives the delimiter that has it; above 3 there is none.
+abbrev pub NamesDelimiter : ℕ → Result Delimiter UnknownDelimiter → Type 0
+NamesDelimiter n r = MatchResult r (λ d. delimiter_number d ≡ n) (λ e. (e.0 ≡ n) × (3 < n))
 
 abbrev pub spacing_number : Spacing → ℕ
 spacing_number Alone = 0

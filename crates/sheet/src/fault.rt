@@ -36,6 +36,13 @@ pub enum StoreFault {
     Rules { place: usize, rule: Rule },
 }
 
+/// Something offered as a sheet that is none, handed back whole with the reason.
+#[derive(Drop)]
+pub struct Refused<T> {
+    pub fault: StoreFault,
+    pub given: T,
+}
+
 impl StoreFault {
     /// The refusal's number, as docs/REFUSALS.md lists it.
     pub fn number(&self) -> u8

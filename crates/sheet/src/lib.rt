@@ -8,8 +8,8 @@ mod same;
 mod store;
 mod tree;
 
-pub use fault::{Rule, StoreFault};
-pub use kind::{Delimiter, EntryKind, Spacing, Stamps};
+pub use fault::{Refused, Rule, StoreFault};
+pub use kind::{Delimiter, EntryKind, Spacing, Stamps, UnknownDelimiter};
 pub use same::same_sheet;
 pub use store::Store;
 pub use tree::Tree;

@@ -10,19 +10,19 @@ use crate::store::Store;
 fn same_entry<S: Store, T: Store>(a: &S, b: &T, at: usize) -> bool
     ensures { Decides result (bare_entry (entry_at (entries (S.Store.sheet a.now)) at) ≡ bare_entry (entry_at (entries (T.Store.sheet b.now)) at)) }
 {
-    if a.kind(at).number() != b.kind(at).number() {
+    if a.kind(at) != b.kind(at) {
         return false;
     }
     if a.distance(at) != b.distance(at) {
         return false;
     }
-    if a.delimiter(at).number() != b.delimiter(at).number() {
+    if a.delimiter(at) != b.delimiter(at) {
         return false;
     }
     if a.character(at) != b.character(at) {
         return false;
     }
-    if a.spacing(at).number() != b.spacing(at).number() {
+    if a.spacing(at) != b.spacing(at) {
         return false;
     }
     a.text(at) == b.text(at)

@@ -10,7 +10,7 @@ use filling::Call;
 use notation::{SheetToken, first_part, token};
 use std::alloc::Global;
 use table::{LONGEST, TextPlace};
-use wide_rules::MOST;
+use rules::MOST;
 
 /// A group that is open: what its closing bracket has to be, and the stamp that it will have.
 #[derive(Clone, Copy)]

@@ -9,7 +9,7 @@ ghost use Rattle.spelled.specs.declared.whole.WholeFault.TheVariants.{Memory};
 use filling::{Call, Filling};
 use std::alloc::{AllocError, Global};
 use table::{Parts, Slot, Table, Texts};
-use wide_rules::MOST;
+use rules::MOST;
 
 /// Why calls gave no sheet.
 #[derive(Clone, Copy, PartialEq, Eq, Debug)]

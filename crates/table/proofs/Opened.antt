@@ -3,10 +3,10 @@ use Rattle.std.proofs.Common.{◌≡◌, ℕ, List, length, Some, None, vec_item
 use Rattle.std.proofs.lemmas.Bool.{leb-true}
 use Rattle.sheet.specs.Entries.{Entry, entries, at}
 use Rattle.sheet.specs.Limits.{LegalFields}
-use Rattle.wide_rules.specs.Rules.{verdict}
-use Rattle.wide_rules.specs.Verdicts.{OneLawfulSheet}
-use Rattle.wide_rules.specs.declared.look.Verdict.TheVariants.{Lawful}
-use Rattle.wide_rules.proofs.Sheets.{one_lawful_sheet, lawful_verdict, legal_there, legal_spacing}
+use Rattle.rules.specs.Rules.{verdict}
+use Rattle.rules.specs.Verdicts.{OneLawfulSheet}
+use Rattle.rules.specs.declared.look.Verdict.TheVariants.{Lawful}
+use Rattle.rules.proofs.Sheets.{one_lawful_sheet, lawful_verdict, legal_there, legal_spacing}
 use Rattle.table.specs.Opening.{sheet_of}
 use Rattle.table.specs.Slots.{parts_listed, found, Small}
 use Rattle.table.specs.declared.slot.Slot.{Slot}

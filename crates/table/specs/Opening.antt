@@ -6,9 +6,9 @@ use Rattle.sheet.specs.Forms.{FlatFormOf}
 use Rattle.sheet.specs.Limits.{KeepsLimits}
 use Rattle.sheet.specs.declared.fault.StoreFault.{StoreFault}
 use Rattle.sheet.specs.declared.fault.StoreFault.TheVariants.{Frame, Rules}
-use Rattle.wide_rules.specs.Rules.{verdict}
-use Rattle.wide_rules.specs.Verdicts.{FirstOffence}
-use Rattle.wide_rules.specs.declared.look.Verdict.TheVariants.{Offends}
+use Rattle.rules.specs.Rules.{verdict}
+use Rattle.rules.specs.Verdicts.{FirstOffence}
+use Rattle.rules.specs.declared.look.Verdict.TheVariants.{Offends}
 use Rattle.table.specs.Slots.{parts_listed}
 use Rattle.table.specs.declared.parts.Parts.{Parts}
 use Rattle.table.specs.declared.parts.Refused.{Refused}

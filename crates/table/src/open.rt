@@ -9,7 +9,7 @@ use crate::slot::Slot;
 use crate::table::Table;
 use crate::texts::Texts;
 use sheet::StoreFault;
-use wide_rules::{Entries, Look, Verdict, is_legal_text, judge};
+use rules::{Entries, Look, Verdict, is_legal_text, judge};
 
 impl Parts {
     /// Both texts, to look into.

@@ -1,6 +1,6 @@
 //! The table store.
 ghost use Rattle.std.specs.Prelude.{◌≡◌, true};
-ghost use Rattle.wide_rules.specs.Rules.{verdict, is_lawful};
+ghost use Rattle.rules.specs.Rules.{verdict, is_lawful};
 ghost use Rattle.table.specs.Slots.{parts_listed};
 
 use crate::parts::Parts;

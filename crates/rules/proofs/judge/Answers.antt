@@ -1,12 +1,11 @@
 use Rattle.std.proofs.Common.{◌≡◌, sym, ◌∙◌}
 use Rattle.rules.specs.Rules.{verdict}
 use Rattle.rules.proofs.Judging.{verdict_is}
-use Rattle.rules.proofs.Offences.{first_offence}
-use Rattle.rules.proofs.Sheets.{one_lawful_sheet, every_lawful_sheet}
+use Rattle.rules.proofs.Verdicts.{means, first, every}
 use Rattle.rules.proofs.judge.Goals as goal
 
 pub returns : goal.returns
 returns g c =
     let es = g.E.Entries.listed c.args.entries.now in
     let is : c.walked.result ≡ verdict es = c.walked.ensures ∙ verdict_is es c.len-count.result c.len-count.ensures c.if-count-gt-MOST.false in
-    record { is = is; means = λ e. one_lawful_sheet es (sym is ∙ e); first = λ n rule e. first_offence es n rule (sym is ∙ e); every = λ s. is ∙ every_lawful_sheet es s }
+    record { is = is; means = means es c.walked.result is; first = first es c.walked.result is; every = λ s. every es c.walked.result is s }

@@ -1,6 +1,6 @@
 use Rattle.std.proofs.Common.{arith}
 use Rattle.std.proofs.lemmas.Bool.Decides.{nat_tests}
-use Rattle.wide_rules.proofs.Stacks.{stack_length, stack_pop}
+use Rattle.rules.proofs.Stacks.{stack_length, stack_pop}
 use Rattle.filling.proofs.filling.Filling.close_group.Goals as goal
 
 pub returns-then-not-has_room : goal.returns-then-not-has_room

@@ -1,6 +1,6 @@
 use Rattle.std.proofs.Common.{◌+◌, ◌<◌, ◌≤◌, length, ◌∙◌, arith, length-set}
 use Rattle.std.proofs.lemmas.Bool.Decides.{nat_tests}
-use Rattle.wide_rules.proofs.Stacks.{stack_length, stack_push}
+use Rattle.rules.proofs.Stacks.{stack_length, stack_push}
 use Rattle.filling.proofs.Behind.{behind_push}
 use Rattle.filling.proofs.filling.Filling.open_group.Goals as goal
 

@@ -1,6 +1,6 @@
 use Rattle.std.proofs.Common.{arith}
 use Rattle.std.proofs.lemmas.Bool.Decides.{nat_tests}
-use Rattle.wide_rules.proofs.Stacks.{stack_length}
+use Rattle.rules.proofs.Stacks.{stack_length}
 use Rattle.filling.proofs.filling.Filling.put_literal.Goals as goal
 
 pub returns-then-not-has_room : goal.returns-then-not-has_room

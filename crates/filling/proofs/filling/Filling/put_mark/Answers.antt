@@ -1,6 +1,6 @@
 use Rattle.std.proofs.Common.{arith}
 use Rattle.std.proofs.lemmas.Bool.Decides.{nat_tests}
-use Rattle.wide_rules.proofs.Stacks.{stack_length}
+use Rattle.rules.proofs.Stacks.{stack_length}
 use Rattle.sheet.specs.Limits.{apostrophe}
 use Rattle.filling.proofs.filling.Filling.put_mark.Goals as goal
 

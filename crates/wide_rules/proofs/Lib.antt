@@ -1,4 +1,0 @@
-pub mod Judging
-pub mod Offences
-pub mod Sheets
-pub mod Stacks

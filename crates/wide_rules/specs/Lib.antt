@@ -1,4 +1,0 @@
-pub mod Looks
-pub mod Rules
-pub mod Verdicts
-pub mod Walks
