@@ -10,6 +10,7 @@ use arrayvec::ArrayVec;
 use sheet::Rule;
 
 /// Whether a mark may have this character and this spacing. An apostrophe begins a lifetime, so it is never alone.
+#[tactic(auto, unfolding(sheet::specs::Limits::legal_mark, sheet::specs::Limits::apostrophe))]
 pub fn is_legal_mark(character: char, spacing: u32) -> bool
     ensures { result ≡ legal_mark character spacing }
 {
@@ -41,12 +42,14 @@ pub fn is_legal_mark(character: char, spacing: u32) -> bool
 }
 
 /// Whether a name or literal may have this text: 1 to 255 bytes.
+#[tactic(auto, unfolding(sheet::specs::Limits::legal_text))]
 pub fn is_legal_text(text: &[u8]) -> bool
     ensures { result ≡ legal_text text.now }
 {
     !text.is_empty() && text.len() <= 255
 }
 
+#[tactic(auto, unfolding(crate::specs::Rules::matches))]
 fn is_matching(at: usize, distance: usize, group: Open) -> bool
     ensures { result ≡ matches at distance group }
 {

@@ -1,4 +1,4 @@
-use Rattle.std.proofs.Common.{◌≡◌, sym, ◌∙◌}
+use Rattle.std.proofs.Common.{◌≡◌, ◌∙◌}
 use Rattle.rules.specs.Rules.{verdict}
 use Rattle.rules.proofs.Judging.{verdict_is}
 use Rattle.rules.proofs.Verdicts.{means, first, every}
