@@ -4,9 +4,20 @@ use Rattle.sheet.specs.Entries.{Entry, Group, Name, Mark, Literal, End, Nothing}
 use Rattle.sheet.specs.Numbers.{delimiter_number, spacing_number}
 use Rattle.sheet.specs.declared.kind.EntryKind.{EntryKind}
 use Rattle.sheet.specs.declared.kind.EntryKind.TheVariants.{Group as KGroup, Name as KName, Mark as KMark, Literal as KLiteral, End as KEnd, Nothing as KNothing}
+use Rattle.sheet.specs.declared.entry.Entry.{Entry as Told}
+use Rattle.sheet.specs.declared.entry.Entry.TheVariants.{Group as IsGroup, Name as IsName, Mark as IsMark, Literal as IsLiteral, End as IsEnd}
 use Rattle.sheet.specs.declared.kind.Stamps.{Stamps}
 use Rattle.sheet.specs.declared.tree.Tree.{Tree}
 use Rattle.sheet.specs.declared.tree.Tree.TheVariants.{Name as TName, Literal as TLiteral, Mark as TMark, Group as TGroup}
+
+-- What the code's answer to `entry` says.
+abbrev pub entry_said : {St : Type 0} → Option (Told St) → Entry St
+entry_said None = Nothing
+entry_said (Some (IsGroup x d z)) = Group x (delimiter_number d) z.whole z.opening z.closing
+entry_said (Some (IsName b s)) = Name b.now s
+entry_said (Some (IsMark c k s)) = Mark c (spacing_number k) s
+entry_said (Some (IsLiteral b s)) = Literal b.now s
+entry_said (Some (IsEnd x)) = End x
 
 abbrev pub kind_of : {St : Type 0} → Entry St → EntryKind
 kind_of (Group x d w o c) = KGroup

@@ -1,6 +1,7 @@
 //! The subject: what a key sheet is, and the interface of every place where one is kept.
 #![tactic(auto)]
 
+mod entry;
 mod fault;
 mod for_ref;
 mod kind;
@@ -8,6 +9,7 @@ mod same;
 mod store;
 mod tree;
 
+pub use entry::Entry;
 pub use fault::{Refused, Rule, StoreFault};
 pub use kind::{Delimiter, EntryKind, Spacing, Stamps, UnknownDelimiter};
 pub use same::same_sheet;
