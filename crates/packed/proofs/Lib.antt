@@ -1,3 +1,4 @@
 pub mod Listed
 pub mod Opened
 pub mod Pairs
+pub mod Triples

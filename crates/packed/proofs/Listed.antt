@@ -1,12 +1,15 @@
 -- The entries of a frame, by place.
-use Rattle.std.proofs.Common.{◌≡◌, ℕ, zero, suc, ◌+◌, ◌*◌, ◌<◌, ◌≤◌, List, map, length, get_or, sym, ap, ◌∙◌, arith}
+use Rattle.std.proofs.Common.{◌≡◌, ℕ, zero, suc, ◌+◌, ◌*◌, ◌<◌, ◌≤◌, List, [], ◌∷◌, map, length, get_or, drop, Option, sym, ap, ◌∙◌, arith}
+use Rattle.std.specs.Int.{from_le_bytes, w16}
 use Rattle.std.specs.List.{range_with_len}
+use Rattle.std.specs.Simd.{first_chunks}
 use Rattle.std.proofs.lemmas.List.FromFn.{length-map-range_with_len}
 use Rattle.sheet.specs.Entries.{Entry, Nothing, at}
 use Rattle.sheet.proofs.Places.{at_past}
-use Rattle.packed.specs.Format.{word, entry_count, meant, entry, listed}
-use Rattle.packed.specs.Slots.{slot_meant}
+use Rattle.packed.specs.Format.{entry_count, meant, entry, listed}
+use Rattle.packed.specs.Slots.{found}
 use Rattle.packed.specs.declared.slot.Slot.{Slot}
+use Rattle.packed.proofs.Triples.{triple_at, word_read}
 
 pub length_listed : (bs : List ℕ) → length (listed bs) ≡ entry_count bs
 unfolding listed
@@ -24,7 +27,11 @@ at_listed bs k h = at_counted (entry bs) 0 (entry_count bs) k h ∙ ap (entry bs
 pub none_past : (bs : List ℕ) (k n : ℕ) → n ≡ entry_count bs → n ≤ k → Nothing ≡ at (listed bs) k
 none_past bs k n all past = let l = length_listed bs in sym (at_past (listed bs) k (omega arith))
 
--- A slot that is read from the bytes stands for the entry at its place.
-pub slot_is : (bs cs : List ℕ) (k n value : ℕ) (s : Slot) → cs ≡ bs → n ≡ entry_count bs → k < n → value ≡ word cs (6 + 3 * k) → ((ds : List ℕ) (j : ℕ) → slot_meant ds j s ≡ meant ds j (get_or cs (5 + 3 * k) 0) value) → slot_meant bs k s ≡ at (listed bs) k
-slot_is bs cs k n value s same all within read means =
-    means bs k ∙ ap (meant bs k (get_or cs (5 + 3 * k) 0)) read ∙ ap (λ ds. meant bs k (get_or ds (5 + 3 * k) 0) (word ds (6 + 3 * k))) same ∙ sym (at_listed bs k (omega arith))
+-- What is read from the three bytes at a place stands for the entry there.
+pub slot_is : (bs : List ℕ) (k value : ℕ) (ts : List (List ℕ)) (t d : List ℕ) (s : Option Slot) → ts ≡ first_chunks 3 (entry_count bs) (drop 5 bs) → k < entry_count bs → t ≡ get_or ts k d → value ≡ from_le_bytes w16 (get_or t 1 0 ∷ get_or t 2 0 ∷ []) → found bs k s ≡ meant bs k (get_or t 0 0) value → found bs k s ≡ at (listed bs) k
+slot_is bs k value ts t d s all l is number means =
+    let r = triple_at bs 5 (entry_count bs) k ts t d all l is in
+    let p : 5 + 3 * k + 1 ≡ 6 + 3 * k = omega arith in
+    let q : 5 + 3 * k + 2 ≡ 6 + 3 * k + 1 = omega arith in
+    let read = word_read bs (6 + 3 * k) _ _ value number (r.second ∙ ap (λ i. get_or bs i 0) p) (r.third ∙ ap (λ i. get_or bs i 0) q) in
+    means ∙ ap (λ i. meant bs k i value) r.first ∙ ap (meant bs k (get_or bs (5 + 3 * k) 0)) read ∙ sym (at_listed bs k l)

@@ -1,7 +1,7 @@
 -- An opened sheet: its flat form is the list of entries in its bytes.
-use Rattle.std.proofs.Common.{◌≡◌, ℕ, ◌≤◌, true, leb, length, sym, refl, ap, ◌∙◌, arith}
-use Rattle.std.proofs.lemmas.Bool.{and_parts}
-use Rattle.sheet.specs.Entries.{Nothing, entries, at}
+use Rattle.std.proofs.Common.{◌≡◌, ℕ, List, ◌<◌, true, leb, length, Some, None, Option, IsSome, sym, refl, ap, ◌∙◌, ⊎_elim, arith, rules}
+use Rattle.std.proofs.lemmas.Bool.{and_parts, cases_lt}
+use Rattle.sheet.specs.Entries.{Entry, Nothing, entries, at}
 use Rattle.sheet.specs.Limits.{legal_mark, among, mark_characters}
 use Rattle.sheet.proofs.Places.{at_past}
 use Rattle.rules.specs.Rules.{verdict}
@@ -10,10 +10,11 @@ use Rattle.rules.specs.declared.look.Verdict.TheVariants.{Lawful}
 use Rattle.rules.proofs.Sheets.{one_lawful_sheet, lawful_verdict, mark_legal}
 use Rattle.packed.specs.Format.{entry_count, listed, here}
 use Rattle.packed.specs.Opening.{bytes_of, sheet_of}
-use Rattle.packed.specs.Slots.{slot_meant, spaced}
+use Rattle.packed.specs.Slots.{found, spaced}
 use Rattle.packed.specs.declared.packed.Packed.{Packed}
+use Rattle.packed.specs.declared.stamp.Stamp.{Stamp}
 use Rattle.packed.specs.declared.slot.Slot.{Slot}
-use Rattle.packed.specs.declared.slot.Slot.TheVariants.{Group, Name, Mark as SMark, Literal, End, Nothing as SNothing}
+use Rattle.packed.specs.declared.slot.Slot.TheVariants.{Group, Name, Mark as SMark, Literal, End}
 use Rattle.packed.proofs.Listed.{length_listed}
 
 its_verdict : (p : Packed) → verdict (listed (bytes_of p)) ≡ Lawful
@@ -25,20 +26,32 @@ its_sheet p = one_lawful_sheet (listed (bytes_of p)) (its_verdict p)
 pub count_is : (p : Packed) → entry_count (bytes_of p) ≡ length (entries (sheet_of p))
 count_is p = sym (ap length (its_sheet p).flat ∙ length_listed (bytes_of p))
 
-pub slot_there : (p : Packed) (k : ℕ) (s : Slot) → slot_meant (bytes_of p) k s ≡ at (listed (bytes_of p)) k → slot_meant (bytes_of p) k s ≡ at (entries (sheet_of p)) k
+pub slot_there : (p : Packed) (k : ℕ) (s : Option Slot) → found (bytes_of p) k s ≡ at (listed (bytes_of p)) k → found (bytes_of p) k s ≡ at (entries (sheet_of p)) k
 slot_there p k s h = h ∙ ap (λ es. at es k) (sym (its_sheet p).flat)
 
 legal_spacing : (c k : ℕ) → legal_mark c k ≡ true → leb k 1 ≡ true
 unfolding legal_mark
 legal_spacing c k h = (and_parts (leb k 1) _ (and_parts (among c mark_characters) _ h).1).0
 
-pub slot_spaced : (p : Packed) (k : ℕ) (s : Slot) → slot_meant (bytes_of p) k s ≡ at (listed (bytes_of p)) k → spaced s ≡ true
-slot_spaced p k (SMark c s) h = legal_spacing c s (mark_legal (listed (bytes_of p)) k c s (here k) (its_verdict p) (sym h))
-slot_spaced p k (Group d x) h = refl
-slot_spaced p k (Name n) h = refl
-slot_spaced p k (Literal n) h = refl
-slot_spaced p k (End x) h = refl
-slot_spaced p k SNothing h = refl
+pub slot_spaced : (p : Packed) (k : ℕ) (s : Option Slot) → found (bytes_of p) k s ≡ at (listed (bytes_of p)) k → spaced s ≡ true
+slot_spaced p k None h = refl
+slot_spaced p k (Some (SMark c s)) h = legal_spacing c s (mark_legal (listed (bytes_of p)) k c s (here k) (its_verdict p) (sym h))
+slot_spaced p k (Some (Group d x)) h = refl
+slot_spaced p k (Some (Name n)) h = refl
+slot_spaced p k (Some (Literal n)) h = refl
+slot_spaced p k (Some (End x)) h = refl
 
-pub past_is_nothing : (p : Packed) (k n : ℕ) → n ≡ length (entries (sheet_of p)) → n ≤ k → at (entries (sheet_of p)) k ≡ Nothing
-past_is_nothing p k n all past = at_past (entries (sheet_of p)) k (omega arith)
+found_none : (bs : List ℕ) (k : ℕ) (s : Option Slot) → found bs k s ≡ Nothing → IsSome s → ⊥
+found_none bs k None e some = search rules
+found_none bs k (Some (Group d x)) e some = cc
+found_none bs k (Some (Name n)) e some = cc
+found_none bs k (Some (Literal n)) e some = cc
+found_none bs k (Some (SMark c s)) e some = cc
+found_none bs k (Some (End x)) e some = cc
+
+-- What is found stands within the entries.
+found_within : (bs : List ℕ) (es : List (Entry Stamp)) (k : ℕ) (s : Option Slot) → found bs k s ≡ at es k → IsSome s → k < length es
+found_within bs es k s h some = ⊎_elim (λ l. l) (λ past. absurd (found_none bs k s (h ∙ at_past es k past) some)) (cases_lt k (length es))
+
+pub slot_few : (p : Packed) (k : ℕ) (s : Option Slot) → found (bytes_of p) k s ≡ at (entries (sheet_of p)) k → IsSome s → k < 65536
+slot_few p k s h some = let l = found_within (bytes_of p) (entries (sheet_of p)) k s h some in omega (arith, (its_sheet p).limits.few)

@@ -1,19 +1,28 @@
 -- The pairs of a frame, one after another.
-use Rattle.std.proofs.Common.{◌≡◌, ℕ, zero, suc, ◌+◌, ◌*◌, ◌<◌, ◌≤◌, true, false, eqb, ltb, leb, List, length, get_or, ap, ◌∙◌, ⊎_elim, add-one, arith}
+use Rattle.std.proofs.Common.{◌≡◌, ℕ, zero, suc, ◌+◌, ◌-◌, ◌*◌, ◌<◌, ◌≤◌, true, false, cond, eqb, ltb, leb, List, [], ◌∷◌, length, get_or, take, drop, sym, ap, ◌∙◌, ⊎_elim, add-one, arith}
+use Rattle.std.specs.Int.{from_le_bytes, w16}
+use Rattle.std.specs.Simd.{first_chunks}
+use Rattle.std.proofs.lemmas.Bool.Decides.{nat_tests}
 use Rattle.std.proofs.lemmas.Bool.{and_from, and_left, and_right, and_parts, both_ways, cases_lt, cases_Bool, leb-true}
-use Rattle.packed.specs.Format.{word, pair_count, pairs_from, text_from, offset, len, free_from, good_pair, good_pairs, framed}
+use Rattle.packed.specs.Format.{pair_count, pairs_from, text_from, offset, len, free_from, good_pair, good_pairs, pair_text, framed}
+use Rattle.packed.proofs.Triples.{triple_at, word_read}
 
--- A pair as the code has read it: where it stands, its offset and its end.
-pub record Read (bs : List ℕ) (n start off long : ℕ) : Type 0 where
-  pub start_is : start ≡ pairs_from bs
-  pub offset_is : off ≡ word bs (start + 3 * n)
-  pub long_is : long ≡ get_or bs (start + 3 * n + 2) 0
+-- A pair as the code reads it: its offset and its length.
+pub record IsRead (bs : List ℕ) (n off long : ℕ) : Type 0 where
+  pub offset_is : off ≡ offset bs n
+  pub long_is : long ≡ len bs n
 
-pub read_offset : (bs : List ℕ) (n start off long : ℕ) → Read bs n start off long → off ≡ offset bs n
-read_offset bs n start off long r = r.offset_is ∙ ap (λ s. word bs (s + 3 * n)) r.start_is
+pub is_read : (bs : List ℕ) (n : ℕ) (ts : List (List ℕ)) (t d : List ℕ) (off : ℕ) → ts ≡ first_chunks 3 (pair_count bs) (drop (pairs_from bs) bs) → n < pair_count bs → t ≡ get_or ts n d → off ≡ from_le_bytes w16 (get_or t 0 0 ∷ get_or t 1 0 ∷ []) → IsRead bs n off (get_or t 2 0)
+is_read bs n ts t d off all l is number =
+    let r = triple_at bs (pairs_from bs) (pair_count bs) n ts t d all l is in
+    record { offset_is = word_read bs (pairs_from bs + 3 * n) _ _ off number r.first r.second; long_is = r.third }
 
-pub read_long : (bs : List ℕ) (n start off long : ℕ) → Read bs n start off long → long ≡ len bs n
-read_long bs n start off long r = r.long_is ∙ ap (λ s. get_or bs (s + 3 * n + 2) 0) r.start_is
+pub text_is : (bs : List ℕ) (n off long text from end : ℕ) → n < pair_count bs → IsRead bs n off long → text ≡ text_from bs → from ≡ text + off → end ≡ from + long → take (end - from) (drop from bs) ≡ pair_text bs n
+text_is bs n off long text from end l r t f e =
+    let there : ltb n (pair_count bs) ≡ true = grind (arith, nat_tests) in
+    let long_is : end - from ≡ len bs n = omega (arith, r.long_is) in
+    let from_is : from ≡ text_from bs + offset bs n = omega (arith, r.offset_is) in
+    ap (λ k. take k (drop from bs)) long_is ∙ ap (λ k. take (len bs n) (drop k bs)) from_is ∙ sym (ap (λ b. cond b (take (len bs n) (drop (text_from bs + offset bs n) bs)) []) there)
 
 pub one_more : (bs : List ℕ) (n : ℕ) → good_pairs bs n ≡ true → good_pair bs n ≡ true → good_pairs bs (n + 1) ≡ true
 one_more bs n h k = rw add-one (and_from _ _ h k)

@@ -3,10 +3,8 @@
 
 mod frame;
 mod framed;
-mod open;
 mod packed;
 mod questions;
-mod read;
 mod slot;
 mod stamp;
 

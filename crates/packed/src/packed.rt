@@ -1,9 +1,11 @@
-//! The packed store and its refusal.
-ghost use Rattle.std.specs.Prelude.{◌≡◌, true};
+//! The packed store and its refusal; from bytes to the one or the other.
+ghost use Rattle.std.specs.Prelude.{◌≡◌, ◌<◌, true, IsSome};
 ghost use Rattle.rules.specs.Rules.{verdict, is_lawful};
 ghost use Rattle.packed.specs.Format.{listed};
 
 use crate::framed::Framed;
+use crate::slot::Slot;
+use rules::{Verdict, judge};
 use sheet::StoreFault;
 
 /// A packed sheet that was opened: its frame is whole and its entries are lawful.
@@ -18,4 +20,53 @@ pub struct Packed {
 pub struct Refused {
     pub fault: StoreFault,
     pub bytes: Vec<u8>,
+}
+
+impl Packed {
+    ghost use Rattle.sheet.specs.Entries.{entries, at as entry_at};
+    ghost use Rattle.packed.specs.Opening.{Opens, AcceptsMeaning, bytes_of, sheet_of};
+    ghost use Rattle.packed.specs.Slots.{found, spaced};
+
+    /// Opens packed bytes: first the frame is looked at, then the rules.
+    pub fn open(bytes: Vec<u8>) -> Result<Packed, Refused>
+        ensures opens { Opens bytes result }
+        ensures accepts { AcceptsMeaning bytes.items result }
+    {
+        Packed::judged(Framed::new(bytes)?)
+    }
+
+    fn judged(framed: Framed) -> Result<Packed, Refused>
+        ensures opens { Opens framed.bytes result }
+        ensures accepts { AcceptsMeaning framed.bytes.items result }
+    {
+        match judge(&framed) {
+            Verdict::Lawful => Ok(Packed { framed }),
+            Verdict::Offends { place, rule } => {
+                let Framed { bytes } = framed;
+                Err(Refused {
+                    fault: StoreFault::Rules { place, rule },
+                    bytes,
+                })
+            }
+        }
+    }
+
+    /// The bytes again.
+    pub fn into_bytes(self) -> Vec<u8>
+        ensures { result ≡ self.framed.bytes }
+    {
+        let Packed {
+            framed: Framed { bytes },
+        } = self;
+        bytes
+    }
+
+    /// The entry at a place: every question asks this one.
+    pub(crate) fn slot(&self, at: usize) -> Option<Slot>
+        ensures is { found (bytes_of self.now) at result ≡ entry_at (entries (sheet_of self.now)) at }
+        ensures spacing { spaced result ≡ true }
+        ensures few { IsSome result → at < 65536 }
+    {
+        self.framed.slot(at)
+    }
 }

@@ -20,74 +20,68 @@ impl Store for Packed {
 
     fn kind(&self, at: usize) -> EntryKind {
         match self.slot(at) {
-            Slot::Group(_, _) => EntryKind::Group,
-            Slot::Name(_) => EntryKind::Name,
-            Slot::Literal(_) => EntryKind::Literal,
-            Slot::Mark(_, _) => EntryKind::Mark,
-            Slot::End(_) => EntryKind::End,
-            Slot::Nothing => EntryKind::Nothing,
+            Some(Slot::Group(..)) => EntryKind::Group,
+            Some(Slot::Name(_)) => EntryKind::Name,
+            Some(Slot::Literal(_)) => EntryKind::Literal,
+            Some(Slot::Mark(..)) => EntryKind::Mark,
+            Some(Slot::End(_)) => EntryKind::End,
+            None => EntryKind::Nothing,
         }
     }
 
     fn distance(&self, at: usize) -> usize {
         match self.slot(at) {
-            Slot::Group(_, distance) => usize::from(distance),
-            Slot::End(distance) => usize::from(distance),
+            Some(Slot::Group(_, distance) | Slot::End(distance)) => usize::from(distance),
             _ => 0,
         }
     }
 
     fn delimiter(&self, at: usize) -> Delimiter {
         match self.slot(at) {
-            Slot::Group(delimiter, _) => delimiter,
+            Some(Slot::Group(delimiter, _)) => delimiter,
             _ => Delimiter::Invisible,
         }
     }
 
     fn character(&self, at: usize) -> char {
         match self.slot(at) {
-            Slot::Mark(character, _) => char::from(character),
+            Some(Slot::Mark(character, _)) => char::from(character),
             _ => '\0',
         }
     }
 
     fn spacing(&self, at: usize) -> Spacing {
         match self.slot(at) {
-            Slot::Mark(_, 0) => Spacing::Alone,
-            Slot::Mark(_, _) => Spacing::Joint,
+            Some(Slot::Mark(_, 1)) => Spacing::Joint,
             _ => Spacing::Alone,
         }
     }
 
     fn text(&self, at: usize) -> &[u8] {
         match self.slot(at) {
-            Slot::Name(pair) => self.framed.text(pair),
-            Slot::Literal(pair) => self.framed.text(pair),
+            Some(Slot::Name(pair) | Slot::Literal(pair)) => self.framed.text(pair),
             _ => &[],
         }
     }
 
     fn stamps(&self, at: usize) -> Stamps<Stamp> {
-        if at >= self.count() {
+        let Some(slot) = self.slot(at) else {
             return Stamps::alike(self.call_site());
-        }
+        };
         let here = Stamp {
             place: at as u16,
             side: Side::Start,
         };
-        match self.slot(at) {
-            Slot::Group(_, _) => Stamps {
-                whole: here,
-                opening: here,
+        match slot {
+            Slot::Group(..) => Stamps {
                 closing: Stamp {
-                    place: at as u16,
                     side: Side::Close,
+                    ..here
                 },
+                ..Stamps::alike(here)
             },
-            Slot::Name(_) => Stamps::alike(here),
-            Slot::Literal(_) => Stamps::alike(here),
-            Slot::Mark(_, _) => Stamps::alike(here),
-            _ => Stamps::alike(self.call_site()),
+            Slot::Name(_) | Slot::Literal(_) | Slot::Mark(..) => Stamps::alike(here),
+            Slot::End(_) => Stamps::alike(self.call_site()),
         }
     }
 

@@ -1,4 +1,8 @@
 //! An entry as its three bytes have it.
+ghost use Rattle.std.specs.Prelude.{◌≡◌, ℕ, List};
+ghost use Rattle.packed.specs.Format.{meant};
+ghost use Rattle.packed.specs.Slots.{found};
+
 use sheet::Delimiter;
 
 /// One entry as it is read from the bytes: a name or literal by the number of its pair.
@@ -9,5 +13,26 @@ pub(crate) enum Slot {
     Literal(u16),
     Mark(u8, u8),
     End(u16),
-    Nothing,
+}
+
+impl Slot {
+    /// What a kind byte and a value stand for; no entry is of a kind above 7.
+    pub(crate) fn of(kind: u8, value: u16) -> Option<Slot>
+        ensures { (bs : List ℕ) (k : ℕ) → found bs k result ≡ meant bs k kind value }
+    {
+        Some(match kind {
+            0 => Slot::Group(Delimiter::Invisible, value),
+            1 => Slot::Group(Delimiter::Parenthesis, value),
+            2 => Slot::Group(Delimiter::Brace, value),
+            3 => Slot::Group(Delimiter::Bracket, value),
+            4 => Slot::Name(value),
+            5 => Slot::Literal(value),
+            6 => {
+                let [character, spacing] = value.to_le_bytes();
+                Slot::Mark(character, spacing)
+            }
+            7 => Slot::End(value),
+            _ => return None,
+        })
+    }
 }

@@ -12,17 +12,14 @@ pub struct Stamp {
 /// The closing bracket of a group has a side of its own, since it shares its group's place.
 #[derive(Clone, Copy, PartialEq, Eq, Debug)]
 pub enum Side {
-    Start,
-    Close,
+    Start = 0,
+    Close = 1,
 }
 
-impl Side {
-    pub fn number(self) -> u8
-        ensures { result ≡ side_number self }
-    {
-        match self {
-            Side::Start => 0,
-            Side::Close => 1,
-        }
+impl From<Side> for u8 {
+    ghost from_gives = { λ side n. n ≡ side_number side };
+
+    fn from(side: Side) -> u8 {
+        side as u8
     }
 }
