@@ -1,7 +1,6 @@
 //! A sheet kept as a table of entries and two texts: what the sheet's writer wrote, and what was filled in from templates.
 #![tactic(auto)]
 
-mod open;
 mod parts;
 mod questions;
 mod slot;

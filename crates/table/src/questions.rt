@@ -29,8 +29,7 @@ impl Store for Table {
 
     fn distance(&self, at: usize) -> usize {
         match self.slot(at) {
-            Some(Slot::Group { distance, .. }) => distance as usize,
-            Some(Slot::End { distance }) => distance as usize,
+            Some(Slot::Group { distance, .. } | Slot::End { distance }) => distance as usize,
             _ => 0,
         }
     }
@@ -60,8 +59,9 @@ impl Store for Table {
 
     fn text(&self, at: usize) -> &[u8] {
         match self.slot(at) {
-            Some(Slot::Name { place, .. }) => self.parts.texts().at(place),
-            Some(Slot::Literal { place, .. }) => self.parts.texts().at(place),
+            Some(Slot::Name { place, .. } | Slot::Literal { place, .. }) => {
+                self.parts.texts().at(place)
+            }
             _ => &[],
         }
     }
@@ -80,9 +80,9 @@ impl Store for Table {
                 opening,
                 closing,
             },
-            Some(Slot::Name { stamp, .. }) => Stamps::alike(stamp),
-            Some(Slot::Mark { stamp, .. }) => Stamps::alike(stamp),
-            Some(Slot::Literal { stamp, .. }) => Stamps::alike(stamp),
+            Some(
+                Slot::Name { stamp, .. } | Slot::Mark { stamp, .. } | Slot::Literal { stamp, .. },
+            ) => Stamps::alike(stamp),
             _ => Stamps::alike(self.call_site()),
         }
     }

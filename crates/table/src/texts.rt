@@ -18,15 +18,11 @@ pub struct Texts<'a> {
 fn counted(text: &[u8]) -> &[u8]
     ensures { result.now ≡ counted_bytes text.now }
 {
-    if text.len() > LONGEST {
-        &text[..LONGEST]
-    } else {
-        text
-    }
+    &text[..LONGEST.min(text.len())]
 }
 
 impl<'a> Texts<'a> {
-    /// The text of a number.
+    /// The text of a number, as somebody wrote it.
     fn numbered(self, number: u32) -> &'a [u8]
         ensures { result.now ≡ text_numbered self.entry.sheet.now self.entry.template.now number }
     {
@@ -42,7 +38,7 @@ impl<'a> Texts<'a> {
         ensures { result ≡ good_place self.entry.sheet.now self.entry.template.now place }
     {
         let end = place.offset as usize + place.length as usize;
-        place.length >= 1 && place.length <= 255 && end <= self.numbered(place.text).len()
+        (1..=255).contains(&place.length) && end <= self.numbered(place.text).len()
     }
 
     /// The bytes at a text place; none at a place that is not good.

@@ -1,8 +1,6 @@
-use Rattle.std.proofs.Common.{sym, arith, length-take-le, take_all}
+use Rattle.std.proofs.Common.{take, ap, ◌∙◌}
+use Rattle.std.proofs.lemmas.List.{take_min}
 use Rattle.table.proofs.texts.counted.Goals as goal
 
-pub slice_bounds-result-end : goal.slice_bounds-result-end
-slice_bounds-result-end c = sym (length-take-le 65535 c.args.text.now (omega arith))
-
-pub returns-else-text-gt-LONGEST : goal.returns-else-text-gt-LONGEST
-returns-else-text-gt-LONGEST c = sym (take_all 65535 c.args.text.now (omega arith))
+pub returns : goal.returns
+returns c = ap (λ n. take n c.args.text.now) c.min.ensures ∙ take_min 65535 c.args.text.now
