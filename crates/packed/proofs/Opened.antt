@@ -1,13 +1,12 @@
 -- An opened sheet: its flat form is the list of entries in its bytes.
-use Rattle.std.proofs.Common.{◌≡◌, ℕ, List, ◌<◌, true, leb, length, Some, None, Option, IsSome, sym, refl, ap, ◌∙◌, ⊎_elim, arith, rules}
-use Rattle.std.proofs.lemmas.Bool.{and_parts, cases_lt}
+use Rattle.std.proofs.Common.{◌≡◌, ℕ, List, ◌<◌, true, leb, length, Some, None, Option, IsSome, sym, refl, subst, ap, ◌∙◌, ⊎_elim, arith, rules}
+use Rattle.std.proofs.lemmas.Bool.{cases_lt}
 use Rattle.sheet.specs.Entries.{Entry, Nothing, entries, at}
-use Rattle.sheet.specs.Limits.{legal_mark, among, mark_characters}
+use Rattle.sheet.specs.Limits.{LegalFields}
 use Rattle.sheet.proofs.Places.{at_past}
-use Rattle.rules.specs.Rules.{verdict}
+use Rattle.rules.specs.Rules.{verdict, lawful}
 use Rattle.rules.specs.Verdicts.{OneLawfulSheet}
-use Rattle.rules.specs.declared.look.Verdict.TheVariants.{Lawful}
-use Rattle.rules.proofs.Sheets.{one_lawful_sheet, lawful_verdict, mark_legal}
+use Rattle.rules.proofs.Sheets.{one_lawful_sheet, lawful_verdict, legal_there, legal_spacing}
 use Rattle.packed.specs.Format.{entry_count, listed, here}
 use Rattle.packed.specs.Opening.{bytes_of, sheet_of}
 use Rattle.packed.specs.Slots.{found, spaced}
@@ -17,7 +16,7 @@ use Rattle.packed.specs.declared.slot.Slot.{Slot}
 use Rattle.packed.specs.declared.slot.Slot.TheVariants.{Group, Name, Mark as SMark, Literal, End}
 use Rattle.packed.proofs.Listed.{length_listed}
 
-its_verdict : (p : Packed) → verdict (listed (bytes_of p)) ≡ Lawful
+its_verdict : (p : Packed) → verdict (listed (bytes_of p)) ≡ lawful
 its_verdict p = lawful_verdict (listed (bytes_of p)) p.lawful
 
 pub its_sheet : (p : Packed) → OneLawfulSheet (listed (bytes_of p))
@@ -29,13 +28,9 @@ count_is p = sym (ap length (its_sheet p).flat ∙ length_listed (bytes_of p))
 pub slot_there : (p : Packed) (k : ℕ) (s : Option Slot) → found (bytes_of p) k s ≡ at (listed (bytes_of p)) k → found (bytes_of p) k s ≡ at (entries (sheet_of p)) k
 slot_there p k s h = h ∙ ap (λ es. at es k) (sym (its_sheet p).flat)
 
-legal_spacing : (c k : ℕ) → legal_mark c k ≡ true → leb k 1 ≡ true
-unfolding legal_mark
-legal_spacing c k h = (and_parts (leb k 1) _ (and_parts (among c mark_characters) _ h).1).0
-
 pub slot_spaced : (p : Packed) (k : ℕ) (s : Option Slot) → found (bytes_of p) k s ≡ at (listed (bytes_of p)) k → spaced s ≡ true
 slot_spaced p k None h = refl
-slot_spaced p k (Some (SMark c s)) h = legal_spacing c s (mark_legal (listed (bytes_of p)) k c s (here k) (its_verdict p) (sym h))
+slot_spaced p k (Some (SMark c s)) h = legal_spacing c s (subst LegalFields (sym h) (legal_there (listed (bytes_of p)) k (its_verdict p)))
 slot_spaced p k (Some (Group d x)) h = refl
 slot_spaced p k (Some (Name n)) h = refl
 slot_spaced p k (Some (Literal n)) h = refl

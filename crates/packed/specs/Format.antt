@@ -67,8 +67,8 @@ here k = record { place = k; side = Start }
 abbrev pub closing : ℕ → Stamp
 closing k = record { place = k; side = Close }
 
-abbrev pub call_site_lem : Stamp
-call_site_lem = here 65535
+abbrev pub call_site_stamp : Stamp
+call_site_stamp = here 65535
 
 -- What an entry of this kind and value at place k stands for.
 abbrev pub meant : List ℕ → ℕ → ℕ → ℕ → Entry Stamp

@@ -6,11 +6,10 @@ ghost use Rattle.packed.specs.Format.{entry_count, pair_text, listed, framed};
 ghost use Rattle.packed.specs.Slots.{found};
 
 use crate::frame::{entries, is_framed, pairs, read_word, start_of_text};
-use crate::packed::Refused;
 use crate::slot::Slot;
 use crate::stamp::Stamp;
 use rules::{Entries, Look, is_legal_text};
-use sheet::StoreFault;
+use sheet::{Refused, StoreFault};
 
 /// Bytes whose frame is whole: every entry, pair and text can be read. Whether the entries are lawful is another matter.
 #[derive(Drop)]
@@ -21,15 +20,15 @@ pub(crate) struct Framed {
 
 impl Framed {
     /// The bytes, if their frame is whole.
-    pub(crate) fn new(bytes: Vec<u8>) -> Result<Framed, Refused>
-        ensures { MatchResult result (λ f. f.bytes ≡ bytes) (λ e. (e.fault ≡ Frame) × (framed bytes.items ≡ false) × (e.bytes ≡ bytes)) }
+    pub(crate) fn new(bytes: Vec<u8>) -> Result<Framed, Refused<Vec<u8>>>
+        ensures { MatchResult result (λ f. f.bytes ≡ bytes) (λ e. (e.fault ≡ Frame) × (framed bytes.items ≡ false) × (e.given ≡ bytes)) }
     {
         if is_framed(bytes.as_slice()) {
             Ok(Framed { bytes })
         } else {
             Err(Refused {
                 fault: StoreFault::Frame,
-                bytes,
+                given: bytes,
             })
         }
     }
@@ -72,13 +71,10 @@ impl Entries for Framed {
         self.count()
     }
 
-    fn look(&self, at: usize) -> Look {
-        let Some(slot) = self.slot(at) else {
-            return Look::Nothing;
-        };
-        match slot {
+    fn look(&self, at: usize) -> Option<Look> {
+        Some(match self.slot(at)? {
             Slot::Group(delimiter, distance) => Look::Group {
-                delimiter: delimiter.number(),
+                delimiter: delimiter as u32,
                 distance: usize::from(distance),
             },
             Slot::Name(pair) => Look::Name {
@@ -89,11 +85,11 @@ impl Entries for Framed {
             },
             Slot::Mark(character, spacing) => Look::Mark {
                 character: char::from(character),
-                spacing,
+                spacing: u32::from(spacing),
             },
             Slot::End(distance) => Look::End {
                 distance: usize::from(distance),
             },
-        }
+        })
     }
 }

@@ -8,5 +8,5 @@ mod questions;
 mod slot;
 mod stamp;
 
-pub use packed::{Packed, Refused};
+pub use packed::Packed;
 pub use stamp::{Side, Stamp};

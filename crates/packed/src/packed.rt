@@ -1,12 +1,12 @@
-//! The packed store and its refusal; from bytes to the one or the other.
+//! The packed store: from bytes to it and back.
 ghost use Rattle.std.specs.Prelude.{◌≡◌, ◌<◌, true, IsSome};
 ghost use Rattle.rules.specs.Rules.{verdict, is_lawful};
 ghost use Rattle.packed.specs.Format.{listed};
 
 use crate::framed::Framed;
 use crate::slot::Slot;
-use rules::{Verdict, judge};
-use sheet::StoreFault;
+use rules::judge;
+use sheet::Refused;
 
 /// A packed sheet that was opened: its frame is whole and its entries are lawful.
 #[derive(Drop)]
@@ -15,37 +15,30 @@ pub struct Packed {
     ghost lawful: { is_lawful (verdict (listed framed.bytes.items)) ≡ true },
 }
 
-/// Bytes that are no packed sheet, handed back whole with the reason.
-#[derive(Drop)]
-pub struct Refused {
-    pub fault: StoreFault,
-    pub bytes: Vec<u8>,
-}
-
 impl Packed {
     ghost use Rattle.sheet.specs.Entries.{entries, at as entry_at};
     ghost use Rattle.packed.specs.Opening.{Opens, AcceptsMeaning, bytes_of, sheet_of};
     ghost use Rattle.packed.specs.Slots.{found, spaced};
 
     /// Opens packed bytes: first the frame is looked at, then the rules.
-    pub fn open(bytes: Vec<u8>) -> Result<Packed, Refused>
+    pub fn open(bytes: Vec<u8>) -> Result<Packed, Refused<Vec<u8>>>
         ensures opens { Opens bytes result }
         ensures accepts { AcceptsMeaning bytes.items result }
     {
         Packed::judged(Framed::new(bytes)?)
     }
 
-    fn judged(framed: Framed) -> Result<Packed, Refused>
+    fn judged(framed: Framed) -> Result<Packed, Refused<Vec<u8>>>
         ensures opens { Opens framed.bytes result }
         ensures accepts { AcceptsMeaning framed.bytes.items result }
     {
         match judge(&framed) {
-            Verdict::Lawful => Ok(Packed { framed }),
-            Verdict::Offends { place, rule } => {
+            Ok(()) => Ok(Packed { framed }),
+            Err(offence) => {
                 let Framed { bytes } = framed;
                 Err(Refused {
-                    fault: StoreFault::Rules { place, rule },
-                    bytes,
+                    fault: offence.into(),
+                    given: bytes,
                 })
             }
         }
