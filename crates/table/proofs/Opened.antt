@@ -3,9 +3,8 @@ use Rattle.std.proofs.Common.{◌≡◌, ℕ, List, length, Some, None, vec_item
 use Rattle.std.proofs.lemmas.Bool.{leb-true}
 use Rattle.sheet.specs.Entries.{Entry, entries, at}
 use Rattle.sheet.specs.Limits.{LegalFields}
-use Rattle.rules.specs.Rules.{verdict}
+use Rattle.rules.specs.Rules.{verdict, lawful}
 use Rattle.rules.specs.Verdicts.{OneLawfulSheet}
-use Rattle.rules.specs.declared.look.Verdict.TheVariants.{Lawful}
 use Rattle.rules.proofs.Sheets.{one_lawful_sheet, lawful_verdict, legal_there, legal_spacing}
 use Rattle.table.specs.Opening.{sheet_of}
 use Rattle.table.specs.Slots.{parts_listed, found, Small}
@@ -14,7 +13,7 @@ use Rattle.table.specs.declared.slot.Slot.TheVariants.{Group as SGroup, Name as 
 use Rattle.table.specs.declared.table.Table.{Table}
 use Rattle.table.proofs.Listed.{length_listed}
 
-its_verdict : (t : Table) → verdict (parts_listed t.parts) ≡ Lawful
+its_verdict : (t : Table) → verdict (parts_listed t.parts) ≡ lawful
 its_verdict t = lawful_verdict (parts_listed t.parts) t.lawful
 
 pub its_sheet : (t : Table) → OneLawfulSheet (parts_listed t.parts)

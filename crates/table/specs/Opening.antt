@@ -4,14 +4,13 @@ use Rattle.sheet.specs.Trees.{Trees}
 use Rattle.sheet.specs.Entries.{Entry, tree}
 use Rattle.sheet.specs.Forms.{FlatFormOf}
 use Rattle.sheet.specs.Limits.{KeepsLimits}
+use Rattle.sheet.specs.declared.fault.Refused.{Refused}
 use Rattle.sheet.specs.declared.fault.StoreFault.{StoreFault}
 use Rattle.sheet.specs.declared.fault.StoreFault.TheVariants.{Frame, Rules}
-use Rattle.rules.specs.Rules.{verdict}
+use Rattle.rules.specs.Rules.{verdict, offending}
 use Rattle.rules.specs.Verdicts.{FirstOffence}
-use Rattle.rules.specs.declared.look.Verdict.TheVariants.{Offends}
 use Rattle.table.specs.Slots.{parts_listed}
 use Rattle.table.specs.declared.parts.Parts.{Parts}
-use Rattle.table.specs.declared.parts.Refused.{Refused}
 use Rattle.table.specs.declared.table.Table.{Table}
 
 -- The sheet of a table.
@@ -26,17 +25,17 @@ pub record Means (es : List (Entry ℕ)) (t : Trees ℕ) : Type 0 where
 -- Why entries mean no sheet: the first place that breaks a rule. A table has no frame that could be broken.
 abbrev pub Refuses : List (Entry ℕ) → StoreFault → Type 0
 Refuses es Frame = ⊥
-Refuses es (Rules place rule) = (verdict es ≡ Offends place rule) × FirstOffence es place rule
+Refuses es (Rules place rule) = (verdict es ≡ offending place rule) × FirstOffence es place rule
 
 -- Accepted, the store holds the parts and its sheet is what they mean; refused, they are handed back with the reason.
-abbrev pub Opens : Parts → Result Table Refused → Type 0
+abbrev pub Opens : Parts → Result Table (Refused Parts) → Type 0
 Opens p (Ok t) = Means (parts_listed p) (sheet_of t) × (t.parts ≡ p)
-Opens p (Err e) = Refuses (parts_listed p) e.fault × (e.parts ≡ p)
+Opens p (Err e) = Refuses (parts_listed p) e.fault × (e.given ≡ p)
 
-abbrev pub OpensAs : Trees ℕ → Result Table Refused → Type 0
+abbrev pub OpensAs : Trees ℕ → Result Table (Refused Parts) → Type 0
 OpensAs t (Ok s) = sheet_of s ≡ t
 OpensAs t (Err e) = ⊥
 
 -- Entries that mean a sheet are accepted, as that sheet and no other.
-abbrev pub AcceptsMeaning : Parts → Result Table Refused → Type 0
+abbrev pub AcceptsMeaning : Parts → Result Table (Refused Parts) → Type 0
 AcceptsMeaning p r = (t : Trees ℕ) → Means (parts_listed p) t → OpensAs t r

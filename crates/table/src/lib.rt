@@ -7,7 +7,7 @@ mod slot;
 mod table;
 mod texts;
 
-pub use parts::{Parts, Refused};
+pub use parts::Parts;
 pub use slot::{Slot, TextPlace};
 pub use table::Table;
 pub use texts::{LONGEST, Texts};

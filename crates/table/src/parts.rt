@@ -5,7 +5,6 @@ ghost use Rattle.table.specs.Slots.{parts_listed, found};
 
 use crate::slot::Slot;
 use crate::texts::Texts;
-use sheet::StoreFault;
 use rules::{Entries, Look, is_legal_text};
 
 /// The entries of a table, and its two texts: what the sheet's writer wrote, and what the templates hold.
@@ -14,13 +13,6 @@ pub struct Parts {
     pub entries: Vec<Slot>,
     pub sheet: Vec<u8>,
     pub template: Vec<u8>,
-}
-
-/// Parts that are no sheet, handed back whole with the reason.
-#[derive(Drop)]
-pub struct Refused {
-    pub fault: StoreFault,
-    pub parts: Parts,
 }
 
 impl Parts {
@@ -52,11 +44,8 @@ impl Entries for Parts {
         self.entries.len()
     }
 
-    fn look(&self, at: usize) -> Look {
-        let Some(slot) = self.slot(at) else {
-            return Look::Nothing;
-        };
-        match slot {
+    fn look(&self, at: usize) -> Option<Look> {
+        Some(match self.slot(at)? {
             Slot::Group {
                 distance,
                 delimiter,
@@ -79,6 +68,6 @@ impl Entries for Parts {
             Slot::End { distance } => Look::End {
                 distance: distance as usize,
             },
-        }
+        })
     }
 }

@@ -1,9 +1,9 @@
-//! What a table store answers.
+//! What a table store shows.
 ghost use Rattle.table.specs.Opening.{sheet_of};
 
 use crate::slot::Slot;
 use crate::table::Table;
-use sheet::{Delimiter, EntryKind, Spacing, Stamps, Store};
+use sheet::{Delimiter, Entry, Spacing, Stamps, Store};
 
 impl Store for Table {
     type Stamp = u32;
@@ -16,75 +16,47 @@ impl Store for Table {
         self.parts.entries.len()
     }
 
-    fn kind(&self, at: usize) -> EntryKind {
-        match self.slot(at) {
-            Some(Slot::Group { .. }) => EntryKind::Group,
-            Some(Slot::Name { .. }) => EntryKind::Name,
-            Some(Slot::Mark { .. }) => EntryKind::Mark,
-            Some(Slot::Literal { .. }) => EntryKind::Literal,
-            Some(Slot::End { .. }) => EntryKind::End,
-            None => EntryKind::Nothing,
-        }
-    }
-
-    fn distance(&self, at: usize) -> usize {
-        match self.slot(at) {
-            Some(Slot::Group { distance, .. } | Slot::End { distance }) => distance as usize,
-            _ => 0,
-        }
-    }
-
-    fn delimiter(&self, at: usize) -> Delimiter {
-        match self.slot(at) {
-            Some(Slot::Group { delimiter: 1, .. }) => Delimiter::Parenthesis,
-            Some(Slot::Group { delimiter: 2, .. }) => Delimiter::Brace,
-            Some(Slot::Group { delimiter: 3, .. }) => Delimiter::Bracket,
-            _ => Delimiter::Invisible,
-        }
-    }
-
-    fn character(&self, at: usize) -> char {
-        match self.slot(at) {
-            Some(Slot::Mark { character, .. }) => character,
-            _ => '\0',
-        }
-    }
-
-    fn spacing(&self, at: usize) -> Spacing {
-        match self.slot(at) {
-            Some(Slot::Mark { spacing: 1, .. }) => Spacing::Joint,
-            _ => Spacing::Alone,
-        }
-    }
-
-    fn text(&self, at: usize) -> &[u8] {
-        match self.slot(at) {
-            Some(Slot::Name { place, .. } | Slot::Literal { place, .. }) => {
-                self.parts.texts().at(place)
-            }
-            _ => &[],
-        }
-    }
-
-    fn stamps(&self, at: usize) -> Stamps<u32> {
-        match self.slot(at) {
-            Some(
-                Slot::Group {
-                    whole,
-                    opening,
-                    closing,
-                    ..
-                },
-            ) => Stamps {
+    fn entry(&self, at: usize) -> Option<Entry<'_, u32>> {
+        Some(match self.slot(at)? {
+            Slot::Group {
+                distance,
+                delimiter,
                 whole,
                 opening,
                 closing,
+            } => Entry::Group {
+                distance: distance as usize,
+                delimiter: Delimiter::try_from(delimiter).ok()?,
+                stamps: Stamps {
+                    whole,
+                    opening,
+                    closing,
+                },
             },
-            Some(
-                Slot::Name { stamp, .. } | Slot::Mark { stamp, .. } | Slot::Literal { stamp, .. },
-            ) => Stamps::alike(stamp),
-            _ => Stamps::alike(self.call_site()),
-        }
+            Slot::Name { place, stamp } => Entry::Name {
+                text: self.parts.texts().at(place),
+                stamp,
+            },
+            Slot::Mark {
+                character,
+                spacing,
+                stamp,
+            } => Entry::Mark {
+                character,
+                spacing: match spacing {
+                    1 => Spacing::Joint,
+                    _ => Spacing::Alone,
+                },
+                stamp,
+            },
+            Slot::Literal { place, stamp } => Entry::Literal {
+                text: self.parts.texts().at(place),
+                stamp,
+            },
+            Slot::End { distance } => Entry::End {
+                distance: distance as usize,
+            },
+        })
     }
 
     fn call_site(&self) -> u32 {

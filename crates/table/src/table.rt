@@ -1,12 +1,12 @@
-//! The table store; from entries and texts to it, or to a refusal.
+//! The table store: from entries and texts to it and back.
 ghost use Rattle.std.specs.Prelude.{◌≡◌, true};
 ghost use Rattle.rules.specs.Rules.{verdict, is_lawful};
 ghost use Rattle.table.specs.Slots.{parts_listed};
 
-use crate::parts::{Parts, Refused};
+use crate::parts::Parts;
 use crate::slot::Slot;
-use sheet::StoreFault;
-use rules::{Verdict, judge};
+use rules::judge;
+use sheet::Refused;
 
 /// A table that was opened: its entries are lawful.
 #[derive(Drop)]
@@ -21,15 +21,15 @@ impl Table {
     ghost use Rattle.table.specs.Slots.{found, Small};
 
     /// Opens entries over their two texts as a sheet.
-    pub fn open(parts: Parts) -> Result<Table, Refused>
+    pub fn open(parts: Parts) -> Result<Table, Refused<Parts>>
         ensures opens { Opens parts result }
         ensures accepts { AcceptsMeaning parts result }
     {
         match judge(&parts) {
-            Verdict::Lawful => Ok(Table { parts }),
-            Verdict::Offends { place, rule } => Err(Refused {
-                fault: StoreFault::Rules { place, rule },
-                parts,
+            Ok(()) => Ok(Table { parts }),
+            Err(offence) => Err(Refused {
+                fault: offence.into(),
+                given: parts,
             }),
         }
     }
