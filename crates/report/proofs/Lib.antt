@@ -1,4 +1,2 @@
-pub mod Joins
-pub mod Pushes
 pub mod Spells
 pub mod Sums

@@ -10,8 +10,8 @@ use Rattle.report.specs.Writing.{viewed, written}
 use Rattle.report.specs.declared.counts.Counts.{Counts}
 use Rattle.report.specs.declared.view.View.TheVariants.{Filled, Plain}
 
-abbrev pub counts_text_lem : Counts → List ℕ
-counts_text_lem c =
+abbrev pub counts_text_of : Counts → List ℕ
+counts_text_of c =
     codes "entries   " ++ (decimal c.entries
     ++ (codes "\ngroups    " ++ (decimal c.groups
     ++ (codes ", invisible: " ++ (decimal c.invisible
@@ -21,7 +21,7 @@ counts_text_lem c =
 
 abbrev pub report_of : {St : Type 0} → Trees St → List ℕ
 report_of t =
-    counts_text_lem (counts_of t)
+    counts_text_of (counts_of t)
     ++ (codes "\n\nas it was filled:\n" ++ (written (viewed Filled t)
     ++ (codes "\n\nplain reading:\n" ++ (written (viewed Plain t)
     ++ codes "\n"))))

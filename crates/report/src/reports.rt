@@ -1,33 +1,18 @@
 //! The whole report, and the sentence for a sheet that was refused.
 ghost use Rattle.std.specs.Prelude.{◌≡◌, IfOk, string_bytes};
-ghost use Rattle.report.specs.Reports.{counts_text_lem as text_of_counts, report_of, rule_words, explanation};
+ghost use Rattle.report.specs.Reports.{report_of, rule_words, explanation};
 
-use crate::counts::Counts;
 use crate::texts::text;
 use crate::totals::tally;
 use crate::view::View;
 use sheet::{Rule, Store, StoreFault};
 use std::alloc::{AllocError, Global};
 
-fn counts_text(heap: Global, counts: Counts) -> Result<String, AllocError>
-    ensures { IfOk result (λ s. string_bytes s ≡ text_of_counts counts) }
-{
-    let entries = counts.entries;
-    let groups = counts.groups;
-    let invisible = counts.invisible;
-    let names = counts.names;
-    let literals = counts.literals;
-    let marks = counts.marks;
-    format!(in heap;
-        "entries   {entries}\ngroups    {groups}, invisible: {invisible}\nnames     {names}\nliterals  {literals}\nmarks     {marks}"
-    )
-}
-
 /// The whole report of a sheet.
 pub fn show<S: Store>(heap: Global, store: &S) -> Result<String, AllocError>
     ensures { IfOk result (λ s. string_bytes s ≡ report_of (S.Store.sheet store.now)) }
 {
-    let counts = counts_text(heap, tally(store))?;
+    let counts = tally(store);
     let filled = text(heap, store, View::Filled)?;
     let plain = text(heap, store, View::Plain)?;
     format!(in heap; "{counts}\n\nas it was filled:\n{filled}\n\nplain reading:\n{plain}\n")
@@ -43,13 +28,12 @@ pub fn explain(heap: Global, fault: StoreFault) -> Result<String, AllocError>
             "refused by 11: the packed frame is broken. Bytes are missing, byte 0 is not 1, or a pair is empty, out of order or past the end of the text.",
         ),
         StoreFault::Rules { place, rule } => {
-            let wrong = rule_text(rule);
-            format!(in heap; "refused by 10 at place {place}: {wrong}.")
+            format!(in heap; "refused by 10 at place {place}: {}.", rule_text(rule))
         }
     }
 }
 
-/// What is wrong where a rule is broken.
+/// What is wrong where a rule is broken. A function, since `Rule` belongs to `sheet`: `Display` for it cannot stand here.
 fn rule_text(rule: Rule) -> &'static str
     ensures { result.now ≡ rule_words rule }
 {

@@ -1,78 +1,52 @@
 //! The text of a sheet, written word by word.
-ghost use Rattle.std.specs.Prelude.{◌≡◌, ◌<◌, ◌++◌, IfOk, string_bytes, OnOk};
+ghost use Rattle.std.specs.Prelude.{◌≡◌, ◌++◌, IfOk, string_bytes, OnOk};
 ghost use Rattle.sheet.specs.Plain.{NoneLeft, NothingElseChanged};
-ghost use Rattle.report.specs.Spelling.{word_said, said_bytes, gap_left};
-ghost use Rattle.report.specs.Writing.{hex_digit_lem as digit_of, shown_byte, escape, escaped, gap_bytes, viewed, written};
+ghost use Rattle.report.specs.Spelling.{word_said};
+ghost use Rattle.report.specs.Writing.{printable, escaped, gap_bytes, viewed, written};
 
-use crate::view::{Gap, View, Word};
+use crate::view::{View, Word};
 use crate::words::word_at;
 use sheet::Store;
 use std::alloc::{AllocError, Global};
 
-fn hex_digit(digit: u8) -> char
-    requires { digit < 16 }
-    ensures is { result ≡ digit_of digit }
-    ensures ascii { result < 128 }
+fn is_printable(byte: u8) -> bool
+    ensures { result ≡ printable byte }
 {
-    if digit < 10 {
-        char::from(b'0' + digit)
-    } else {
-        char::from(b'a' - 10 + digit)
-    }
+    matches!(byte, b' '..=b'~')
 }
 
-/// One byte of a text, escaped unless it is printable ASCII.
-fn push_byte(out: &mut String, byte: u8) -> Result<(), AllocError>
-    ensures { OnOk result (string_bytes out.new ≡ string_bytes out.old ++ shown_byte byte) }
-{
-    if byte >= 32 && byte <= 126 {
-        out.push(char::from(byte))
-    } else {
-        push_escape(out, byte)
-    }
-}
-
-fn push_escape(out: &mut String, byte: u8) -> Result<(), AllocError>
-    ensures { OnOk result (string_bytes out.new ≡ string_bytes out.old ++ escape byte) }
-{
-    out.push_str("\\x")?;
-    out.push(hex_digit(byte / 16))?;
-    out.push(hex_digit(byte % 16))?;
-    Ok(())
-}
-
+/// A text, each byte escaped unless it is printable ASCII.
 fn push_escaped(out: &mut String, text: &[u8]) -> Result<(), AllocError>
     ensures { OnOk result (string_bytes out.new ≡ string_bytes out.old ++ escaped text.now) }
 {
     for byte in text {
-        push_byte(out, *byte)?;
+        if is_printable(*byte) {
+            out.push(char::from(*byte))?;
+        } else {
+            write!(out, "\\x{byte:02x}")?;
+        }
     }
     Ok(())
 }
 
-fn push_gap(out: &mut String, gap: Gap) -> Result<(), AllocError>
-    ensures { OnOk result (string_bytes out.new ≡ string_bytes out.old ++ gap_bytes gap) }
-{
-    match gap {
-        Gap::Nothing => Ok(()),
-        Gap::Blank => out.push(' '),
-        Gap::Line => out.push('\n'),
-    }
-}
-
 /// Writes a word behind the gap that the words before it left, and answers the gap that it leaves.
-fn push_word(out: &mut String, gap: Gap, word: Word<'_>) -> Result<Gap, AllocError>
-    ensures { IfOk result (λ h. (string_bytes out.new ≡ string_bytes out.old ++ said_bytes gap (word_said word.entry)) × (h ≡ gap_left gap (word_said word.entry))) }
+fn push_word(
+    out: &mut String,
+    gap: Option<char>,
+    word: Word<'_>,
+) -> Result<Option<char>, AllocError>
+    ensures bytes { OnOk result (string_bytes out.new ≡ string_bytes out.old ++ (gap_bytes gap ++ (word_said word.entry).bytes)) }
+    ensures gap { IfOk result (λ g. g ≡ (word_said word.entry).gap) }
 {
+    if let Some(gap) = gap {
+        out.push(gap)?;
+    }
     match word {
-        Word::Silent => Ok(gap),
         Word::Text(text) => {
-            push_gap(out, gap)?;
             push_escaped(out, text)?;
-            Ok(Gap::Blank)
+            Ok(Some(' '))
         }
         Word::Sign(sign, behind) => {
-            push_gap(out, gap)?;
             out.push(sign)?;
             Ok(behind)
         }
@@ -87,9 +61,11 @@ pub fn text<S: Store>(heap: Global, store: &S, view: View) -> Result<String, All
     ensures nothing_else { NothingElseChanged S.Stamp }
 {
     let mut out = String::new(heap);
-    let mut gap = Gap::Nothing;
+    let mut gap = None;
     for at in 0..store.count() {
-        gap = push_word(&mut out, gap, word_at(store, at, view))?;
+        if let Some(word) = word_at(store, at, view) {
+            gap = push_word(&mut out, gap, word)?;
+        }
     }
     Ok(out)
 }

@@ -9,19 +9,11 @@ pub enum View {
     Plain,
 }
 
-/// What stands between two words of the text.
-#[derive(Clone, Copy)]
-pub enum Gap {
-    Nothing,
-    Blank,
-    Line,
-}
-
 /// What one entry adds to the text.
 #[derive(Clone, Copy)]
 pub(crate) enum Word<'a> {
-    Silent,
+    /// A name or a literal; the gap behind it is a blank.
     Text(&'a [u8]),
     /// A mark or a bracket, and the gap behind it.
-    Sign(char, Gap),
+    Sign(char, Option<char>),
 }
