@@ -1,5 +1,5 @@
 //! What the words of the command line ask for.
-ghost use Rattle.keysheet.specs.Verbs.{Asks};
+use std::str::FromStr;
 
 /// What the first word asks for.
 #[derive(Clone, Copy)]
@@ -8,14 +8,22 @@ pub enum Verb {
     Show,
 }
 
-pub fn asked(word: &str) -> Option<Verb>
-    ensures { Asks word.now result }
-{
-    if word == "help" {
-        return Some(Verb::Help);
+/// A word that asks for nothing.
+#[derive(Clone, Copy, Debug)]
+pub struct UnknownVerb;
+
+impl FromStr for Verb {
+    type Err = UnknownVerb;
+
+    ghost use Rattle.keysheet.specs.Verbs.{Asks};
+
+    ghost from_str_gives = { Asks };
+
+    fn from_str(word: &str) -> Result<Verb, UnknownVerb> {
+        match word {
+            "help" => Ok(Verb::Help),
+            "show" => Ok(Verb::Show),
+            _ => Err(UnknownVerb),
+        }
     }
-    if word == "show" {
-        return Some(Verb::Show);
-    }
-    None
 }

@@ -1,49 +1,25 @@
 //! What may go wrong, and the line that says so.
 use std::alloc::AllocError;
-use std::{fmt, io};
+use std::io;
+use thiserror::Error;
 
 /// Why the program ends with status 1.
-#[derive(Drop)]
+#[derive(Debug, Drop, Error)]
 pub enum Failure {
+    #[error("no command is given: try 'keysheet help'")]
     NoCommand,
+    #[error("there is no command '{0}': try 'keysheet help'")]
     UnknownCommand(String),
+    #[error("no file is named: 'keysheet show FILE' wants one")]
     NoFile,
+    #[error("one word too many, '{0}': 'keysheet show FILE' wants one file")]
     ExtraWord(String),
-    Unreadable(String, io::Error),
-    Refused(String, String),
-    Output(io::Error),
-    Memory,
-}
-
-impl From<AllocError> for Failure {
-    fn from(_error: AllocError) -> Failure {
-        Failure::Memory
-    }
-}
-
-impl From<io::Error> for Failure {
-    fn from(error: io::Error) -> Failure {
-        Failure::Output(error)
-    }
-}
-
-impl fmt::Display for Failure {
-    fn fmt<W: fmt::Write>(&self, f: &mut fmt::Formatter<W>) -> fmt::Result {
-        match self {
-            Failure::NoCommand => write!(f, "no command is given: try 'keysheet help'"),
-            Failure::UnknownCommand(word) => write!(
-                f,
-                "there is no command '{word}': try 'keysheet help'"
-            ),
-            Failure::NoFile => write!(f, "no file is named: 'keysheet show FILE' wants one"),
-            Failure::ExtraWord(word) => write!(
-                f,
-                "one word too many, '{word}': 'keysheet show FILE' wants one file"
-            ),
-            Failure::Unreadable(path, error) => write!(f, "{path} cannot be read: {error}"),
-            Failure::Refused(path, sentence) => write!(f, "{path}: {sentence}"),
-            Failure::Output(error) => write!(f, "the report cannot be written: {error}"),
-            Failure::Memory => write!(f, "there is not enough memory"),
-        }
-    }
+    #[error("{path} cannot be read: {error}")]
+    Unreadable { path: String, error: io::Error },
+    #[error("{path}: {sentence}")]
+    Refused { path: String, sentence: String },
+    #[error("the report cannot be written: {0}")]
+    Output(#[from] io::Error),
+    #[error("there is not enough memory")]
+    Memory(#[from] AllocError),
 }

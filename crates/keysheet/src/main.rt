@@ -4,7 +4,7 @@
 mod command;
 mod failure;
 
-use command::{Verb, asked};
+use command::{UnknownVerb, Verb};
 use failure::Failure;
 use packed::Packed;
 use std::process::ExitCode;
@@ -29,41 +29,37 @@ fn main(rt: HostRuntime) -> ExitCode {
 }
 
 fn run(rt: &HostRuntime) -> Result<(), Failure> {
-    let mut words = env::args(rt)?;
-    let _ = words.next();
-    let Some(word) = words.next() else {
-        return Err(Failure::NoCommand);
-    };
-    match asked(word.as_str()) {
-        None => Err(Failure::UnknownCommand(word)),
-        Some(Verb::Help) => {
+    let mut words = env::args(rt)?.skip(1);
+    let word = words.next().ok_or(Failure::NoCommand)?;
+    match word.parse() {
+        Ok(Verb::Help) => {
             rt.println(USAGE)?;
             Ok(())
         }
-        Some(Verb::Show) => {
-            let Some(path) = words.next() else {
-                return Err(Failure::NoFile);
-            };
+        Ok(Verb::Show) => {
+            let path = words.next().ok_or(Failure::NoFile)?;
             match words.next() {
                 Some(extra) => Err(Failure::ExtraWord(extra)),
                 None => show_file(rt, path),
             }
         }
+        Err(UnknownVerb) => Err(Failure::UnknownCommand(word)),
     }
 }
 
 fn show_file(rt: &HostRuntime, path: String) -> Result<(), Failure> {
-    match fs::read(rt, path.as_str()) {
-        Err(error) => Err(Failure::Unreadable(path, error)),
-        Ok(bytes) => match Packed::open(bytes) {
-            Err(refused) => Err(Failure::Refused(
-                path,
-                report::explain(rt.alloc(), refused.fault)?,
-            )),
-            Ok(sheet) => {
-                rt.print(report::show(rt.alloc(), &sheet)?)?;
-                Ok(())
-            }
-        },
+    let bytes = match fs::read(rt, path.as_str()) {
+        Ok(bytes) => bytes,
+        Err(error) => return Err(Failure::Unreadable { path, error }),
+    };
+    match Packed::open(bytes) {
+        Ok(sheet) => {
+            rt.print(report::show(rt.alloc(), &sheet)?)?;
+            Ok(())
+        }
+        Err(refused) => {
+            let sentence = report::explain(rt.alloc(), refused.fault)?;
+            Err(Failure::Refused { path, sentence })
+        }
     }
 }

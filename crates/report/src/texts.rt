@@ -55,6 +55,7 @@ fn push_word(
 
 /// The text of a sheet: all of it as it was filled, or its plain reading, in which no invisible group is left and nothing else
 /// has changed.
+#[tactic(auto, using(sheet::proofs::Plains::none_left, sheet::proofs::Plains::nothing_else_changed))]
 pub fn text<S: Store>(heap: Global, store: &S, view: View) -> Result<String, AllocError>
     ensures is { IfOk result (λ s. string_bytes s ≡ written (viewed view (S.Store.sheet store.now))) }
     ensures none_left { NoneLeft S.Stamp }

@@ -30,14 +30,3 @@ loop-at-preserved g c =
           after_silence c.args.view _ _ _ _ c.loop-at.at _ _ c.loop-at.invariant (omega (arith, c.count-at-end.ensures.is)) (sym w.in_default.ensures) (ap string_bytes w.out-is) w.gap-is
     ]
 
-pub returns-in_err-gap-clause-none_left : goal.returns-in_err-gap-clause-none_left
-returns-in_err-gap-clause-none_left g c = none_left
-
-pub returns-in_err-gap-clause-nothing_else : goal.returns-in_err-gap-clause-nothing_else
-returns-in_err-gap-clause-nothing_else g c = nothing_else_changed
-
-pub returns-clause-none_left : goal.returns-clause-none_left
-returns-clause-none_left g c = none_left
-
-pub returns-clause-nothing_else : goal.returns-clause-nothing_else
-returns-clause-nothing_else g c = nothing_else_changed
