@@ -625,9 +625,9 @@ fn breaks(
             assert_eq!(rt; refused.fault.number(), 10);
             assert_eq!(rt; refused.fault, StoreFault::Rules { place, rule });
             assert!(rt;
-                refused.parts.entries.as_slice() == entries
-                    && refused.parts.sheet.as_slice() == SHEET.as_slice()
-                    && refused.parts.template.as_slice() == TEMPLATE.as_slice()
+                refused.given.entries.as_slice() == entries
+                    && refused.given.sheet.as_slice() == SHEET.as_slice()
+                    && refused.given.template.as_slice() == TEMPLATE.as_slice()
             );
             Ok(())
         }

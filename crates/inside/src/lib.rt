@@ -2,7 +2,6 @@
 #![tactic(auto)]
 
 mod inside;
-mod open;
 mod questions;
 mod under;
 

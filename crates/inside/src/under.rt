@@ -1,9 +1,8 @@
 //! Where an entry of the contents is kept.
 
-/// What a place of the contents is led to: a place below, the End that closes the contents, or nothing past it.
+/// What a place of the contents is led to: a place below, or the End that closes the contents.
 #[derive(Clone, Copy)]
 pub(crate) enum Under {
     Below(usize),
     Last,
-    Past,
 }

@@ -18,7 +18,7 @@ fn breaks(
         Err(refused) => {
             assert_eq!(rt; refused.fault, StoreFault::Rules { place, rule });
             assert!(rt;
-                refused.bytes.as_slice() == bytes,
+                refused.given.as_slice() == bytes,
                 "the bytes are handed back"
             );
             Ok(())
