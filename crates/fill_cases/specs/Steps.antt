@@ -12,7 +12,7 @@ use Rattle.inside.specs.Opening.{OpensInside, GoesInside, no_group_number}
 use Rattle.inside.specs.declared.inside.Inside.{Inside}
 use Rattle.inside.specs.declared.inside.NoGroup.{NoGroup as NoGroupThere}
 use Rattle.filling.specs.Filling.{fill}
-use Rattle.filling.specs.Progress.{progress_of, start}
+use Rattle.filling.specs.Progress.{start}
 use Rattle.filling.specs.declared.call.Call.{Call}
 use Rattle.filling.specs.declared.fault.FillFault.{FillFault}
 use Rattle.notation.specs.Calls.{call_of_lem}
@@ -76,7 +76,7 @@ BeginsTable (Some g) d b = (p : Parts) × (g ≡ parts_said p) × OpensTable p d
 -- A filling begins with a new filling over the blank table.
 abbrev pub BeginsFilling : Option Given → Case → Answer → Type 0
 BeginsFilling None d b = NotKnown UnknownCase d b
-BeginsFilling (Some g) d b = (w : Work) × (g ≡ parts_said w.parts) × (progress_of w.filling ≡ start) × Is (FillingCase w) Silent d b
+BeginsFilling (Some g) d b = (w : Work) × (g ≡ parts_said w.parts) × (w.filling ≡ start) × Is (FillingCase w) Silent d b
 
 -- A sheet that is spelled out and keeps the limits is a store; one that breaks them is a refused store. Neither is answered. Words that spell
 -- no sheet are no question.
@@ -200,7 +200,7 @@ fill_said (Err f) = NotFilled f
 -- A call was put to the filling: filling and table are what the call leaves, and the texts are as they were.
 pub record Put (w : Work) (c : Call) (v : Work) (b : Answer) : Type 0 where
   pub answer : Result ℕ FillFault
-  pub is : record { answer = answer; progress = progress_of v.filling; entries = vec_items v.parts.entries } ≡ fill (vec_items w.parts.sheet) (vec_items w.parts.template) (progress_of w.filling) c (vec_items w.parts.entries)
+  pub is : record { answer = answer; progress = v.filling; entries = vec_items v.parts.entries } ≡ fill (vec_items w.parts.sheet) (vec_items w.parts.template) w.filling c (vec_items w.parts.entries)
   pub sheet : v.parts.sheet ≡ w.parts.sheet
   pub template : v.parts.template ≡ w.parts.template
   pub said : b ≡ fill_said answer
@@ -216,7 +216,7 @@ abbrev pub StepsFilling : Work → FillQuestionSaid → Case → Answer → Type
 StepsFilling w (call c) d b = (v : Work) × (d ≡ FillingCase v) × Put w c v b
 StepsFilling w show d b = Is (FillingCase w) Entries d b
 StepsFilling w (cut n) d b = (v : Work) × (v.filling ≡ w.filling) × Shortened w n v.parts × Is (FillingCase v) Silent d b
-StepsFilling w read d b = (p : Parts) × Shortened w (progress_of w.filling).written p × OpensTable p d b
+StepsFilling w read d b = (p : Parts) × Shortened w w.filling.written p × OpensTable p d b
 StepsFilling w no_question d b = NotKnown (FillingCase w) d b
 
 -- A question in a case is answered so, and leads to this case. A refused store stays refused.

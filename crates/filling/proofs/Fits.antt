@@ -1,5 +1,5 @@
 -- Trees that may be told next to each other.
-use Rattle.std.proofs.Common.{◌≡◌, ℕ, ◌≤◌, max, true, false, cond, List, sym, refl, ap, ◌∙◌, subst, arith}
+use Rattle.std.proofs.Common.{◌≡◌, ℕ, ◌≤◌, max, true, false, cond, List, refl, ap, arith}
 use Rattle.sheet.specs.Trees.{Trees, nil, name, mark, literal, group, then, depth}
 use Rattle.sheet.specs.Limits.{legal_mark, legal_text, StartsWithName, Sound}
 use Rattle.sheet.proofs.Forms.{then_nil}
@@ -31,14 +31,10 @@ pub nothing_fits : Fit IsOpen nil
 nothing_fits u sound starts = sound
 
 pub fit_then : (s r : State) (t u : Trees ℕ) → Fit s t → Fit r u → (is_waiting s ≡ true → (v : Trees ℕ) → StartsWithName (then u v)) → Fit r (then t u)
-fit_then s r t u ht hu named v sound starts =
-    subst (λ (x : Trees ℕ). Sound x) (sym (then_then t u v)) (ht (then u v) (hu v sound starts) (λ w. named w v))
-
-pub never : {A : Type 0} (s : State) → is_waiting s ≡ false → is_waiting s ≡ true → A
-never s free waits = let e : false ≡ true = sym free ∙ waits in let z : ◌≡◌ {A = ℕ} 0 1 = cc in absurd (omega arith)
+fit_then s r t u ht hu named v sound starts = rw then_then (ht (then u v) (hu v sound starts) (λ w. named w v))
 
 pub fit_open : (s : State) (t : Trees ℕ) → is_waiting s ≡ false → Fit s t → Fit IsOpen t
-fit_open s t free h u sound starts = h u sound (λ w. never s free w)
+fit_open s t free h u sound starts = h u sound (λ w. absurd (cc))
 
 pub name_fits : (b : List ℕ) (s : ℕ) → legal_text b ≡ true → Fit IsOpen (name b s nil)
 name_fits b s legal u sound starts = (legal, sound)
@@ -51,7 +47,7 @@ mark_fits c k s legal u sound starts = (legal, (λ e. starts (ap (λ t. is_waiti
 
 -- What is told without an apostrophe at its end is sound as it stands.
 pub fit_sound : (t : Trees ℕ) → Fit IsOpen t → Sound t
-fit_sound t h = subst (λ (x : Trees ℕ). Sound x) (then_nil t) (h nil tt (λ w. never IsOpen refl w))
+fit_sound t h = rw then_nil at (h nil tt (λ w. absurd (cc)))
 
 pub group_fits : (d w o c : ℕ) (t : Trees ℕ) → d ≤ 3 → Fit IsOpen t → Fit IsOpen (group d w o c t nil)
 group_fits d w o c t few h u sound starts = (few, fit_sound t h, sound)

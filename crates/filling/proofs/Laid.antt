@@ -10,11 +10,7 @@ flat_append (mark c k s r) es = ap (λ l. Mark c k s ∷ l) (flat_append r es)
 flat_append (literal b s r) es = ap (λ l. Literal b s ∷ l) (flat_append r es)
 flat_append {St} (group d w o c i r) es =
     let e : Entry St = End (suc (size i)) in
-    ap (λ l. Group (suc (size i)) d w o c ∷ l)
-    (flat_append i (e ∷ flat r es)
-    ∙ ap (λ l. flat i [] ++ e ∷ l) (flat_append r es)
-    ∙ sym (append_assoc (flat i []) (e ∷ flat r []) es)
-    ∙ ap (λ l. l ++ es) (sym (flat_append i (e ∷ flat r []))))
+    rw (flat_append i (e ∷ flat r es), flat_append r es, flat_append i (e ∷ flat r []), append_assoc)
 
 pub flat_then : {St : Type 0} (t u : Trees St) (es : List (Entry St)) → flat (then t u) es ≡ flat t (flat u es)
 flat_then nil u es = refl

@@ -1,5 +1,3 @@
-pub mod Behind
-pub mod Clear
 pub mod Laid
 pub mod Told
 pub mod Fits
@@ -8,3 +6,4 @@ pub mod Sealed
 pub mod Room
 pub mod Tables
 pub mod Unique
+pub mod Whole

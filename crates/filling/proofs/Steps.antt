@@ -1,5 +1,5 @@
 -- Where a filling stands after a run of accepted calls, and how one more call brings it on.
-use Rattle.std.proofs.Common.{◌≡◌, ℕ, suc, ◌+◌, ◌-◌, ◌<◌, ◌≤◌, true, false, List, [], ◌∷◌, ◌++◌, map, length, get_or, take, set, sym, refl, ap, ◌∙◌, subst, arith, length-set, length-take-le, get_or-take}
+use Rattle.std.proofs.Common.{◌≡◌, ℕ, suc, ◌+◌, ◌-◌, ◌<◌, ◌≤◌, true, false, List, [], ◌∷◌, ◌++◌, map, length, get_or, take, set, sym, refl, ap, ◌∙◌, arith, length-set, length-take-le, get_or-take}
 use lib.Seq.{map-set, take-set-lt, set-append_seam, drop-append_seam}
 use Rattle.std.proofs.lemmas.List.{take_more_set, map_push}
 use Rattle.sheet.specs.Trees.{Trees, nil, size, depth, then}
@@ -17,7 +17,7 @@ use Rattle.filling.specs.declared.call.Call.{Call}
 use Rattle.filling.specs.declared.call.Call.TheVariants.{Open, Close}
 use Rattle.filling.specs.declared.call.State.{State}
 use Rattle.filling.specs.declared.call.State.TheVariants.{Open as IsOpen}
-use Rattle.filling.proofs.Fits.{Fit, depth_then, fit_then, fit_open, never, nothing_fits, group_fits}
+use Rattle.filling.proofs.Fits.{Fit, depth_then, fit_then, fit_open, nothing_fits, group_fits}
 use Rattle.filling.proofs.Laid.{Frame, begun, ended, laid, laid_then, laid_closed, length_laid}
 use Rattle.filling.proofs.Told.{Told, told_then, told_open, told_close}
 
@@ -61,9 +61,6 @@ pub one_more : (a b : List ℕ) (es : List Slot) (w : ℕ) (s : Slot) → w < le
 unfolding listed
 one_more a b es w s h = ap (map (slot_meant a b)) (take_more_set es w s h) ∙ map_push (slot_meant a b) (take w es) s
 
-still_within : (es : List Slot) (w : ℕ) (s : Slot) → w < length es → w + 1 ≤ length (set es w s)
-still_within es w s h = let l = length-set es w s in omega arith
-
 -- A name, mark or literal.
 pub with_leaf : (a b : List ℕ) (es : List Slot) (p : Progress) (cs : List Call) (s : Slot) (t : Trees ℕ) (call : Call) (r : State) → Stands a b es p cs → p.written < length es → slot_meant a b s ∷ [] ≡ flat t [] → depth t ≡ 0 → Tells a b t (call ∷ []) → Fit r t → (is_waiting p.state ≡ true → (v : Trees ℕ) → StartsWithName (then t v)) → Stands a b (set es p.written s) (progress r (p.written + 1) p.groups) (cs ++ call ∷ [])
 with_leaf a b es p cs s t call r st room one low tells fits named =
@@ -71,7 +68,7 @@ with_leaf a b es p cs s t call r st room one low tells fits named =
       frames = st.frames;
       top = then st.top t;
       written_is = one_more a b es p.written s room ∙ ap (λ l. l ++ slot_meant a b s ∷ []) st.written_is ∙ ap (λ l. laid st.frames st.top ++ l) one ∙ sym (laid_then st.frames st.top t);
-      within = still_within es p.written s room;
+      within = omega (arith, length-set es p.written s);
       placed = st.placed;
       told = told_then a b st.frames st.top t cs (call ∷ []) st.told tells;
       kept = st.kept;
@@ -90,7 +87,7 @@ with_open a b es p cs d w o st room free few deep =
       frames = f ∷ st.frames;
       top = nil;
       written_is = one_more a b es p.written s room ∙ ap (λ l. l ++ begun f ∷ []) st.written_is;
-      within = still_within es p.written s room;
+      within = omega (arith, length-set es p.written s);
       placed = (sym (how_many a b es p.written st.within) ∙ ap length st.written_is, st.placed);
       told = told_open a b st.frames st.top d w o cs st.told;
       kept = (few, fit_open p.state st.top free st.fit, st.shallow, st.kept);
@@ -144,16 +141,16 @@ closes a b es w gs f fs t cs s is room placed told kept fit shallow =
           ∙ ap (λ l. l ++ End (w - k) ∷ []) (completes a b es w f fs t x is (omega arith) ∙ ap (λ e. laid fs f.before ++ e ∷ flat t []) group-is)
           ∙ ap (λ n. (laid fs f.before ++ Group (suc (size t)) f.delimiter f.whole f.opening s ∷ flat t []) ++ End n ∷ []) far
           ∙ sym (laid_closed f fs s t);
-      within = still_within (set es k x) w (SEnd (w - k)) room-then;
+      within = omega (arith, length-set (set es k x) w (SEnd (w - k)));
       placed = placed;
       told = told_close a b f fs t s cs told;
       kept = kept.3;
-      fit = fit_then IsOpen IsOpen f.before (ended f s t) kept.1 (group_fits f.delimiter f.whole f.opening s t kept.0 fit) (λ w. never IsOpen refl w);
+      fit = fit_then IsOpen IsOpen f.before (ended f s t) kept.1 (group_fits f.delimiter f.whole f.opening s t kept.0 fit) (λ w. absurd (cc));
       shallow = let e = depth_then f.before (ended f s t) in let d = kept.2 in omega arith;
     }
 
 pub with_close : (a b : List ℕ) (es : List Slot) (w : ℕ) (gs : List ℕ) (cs : List Call) (s : ℕ) (fs : List Frame) (t : Trees ℕ) → listed a b (take w es) ≡ laid fs t → w < length es → Placed gs fs → Told a b cs fs t → Kept fs → Fit IsOpen t → length fs + depth t ≤ 60 → nothing_to_close gs (Close s) ≡ false → Stands a b (close_at gs w s es) (progress IsOpen (w + 1) (but_innermost gs)) (cs ++ Close s ∷ [])
-with_close a b es w [] cs s fs t is room placed told kept fit shallow some = let z : ◌≡◌ {A = ℕ} 0 1 = cc in absurd (omega arith)
+with_close a b es w [] cs s fs t is room placed told kept fit shallow some = absurd (cc)
 with_close a b es w (g ∷ gs) cs s [] t is room placed told kept fit shallow some = absurd placed
 with_close a b es w (g ∷ gs) cs s (f ∷ fs) t is room placed told kept fit shallow some =
-    subst (λ (k : ℕ). Stands a b (close_at (k ∷ gs) w s es) (progress IsOpen (w + 1) gs) (cs ++ Close s ∷ [])) (sym placed.0) (closes a b es w gs f fs t cs s is room placed.1 told kept fit shallow)
+    rw placed.0 (closes a b es w gs f fs t cs s is room placed.1 told kept fit shallow)

@@ -1,5 +1,5 @@
 -- What the calls so far tell.
-use Rattle.std.proofs.Common.{◌≡◌, ℕ, List, [], ◌∷◌, ◌++◌, sym, refl, ap, ◌∙◌, subst, append_assoc}
+use Rattle.std.proofs.Common.{◌≡◌, ℕ, List, [], ◌∷◌, ◌++◌, refl, ap, ◌∙◌, append_assoc}
 use Rattle.sheet.specs.Trees.{Trees, nil, name, mark, literal, group, then}
 use Rattle.filling.specs.Runs.{Tells}
 use Rattle.filling.specs.declared.call.Call.{Call}
@@ -8,7 +8,7 @@ use Rattle.filling.proofs.Laid.{Frame, ended}
 
 -- Calls that tell some trees, and then calls that tell others, tell both.
 pub tells_then : (a b : List ℕ) (t u : Trees ℕ) (cs ds : List Call) → Tells a b t cs → Tells a b u ds → Tells a b (then t u) (cs ++ ds)
-tells_then a b nil u cs ds h k = subst (λ (l : List Call). Tells a b u l) (sym (ap (λ l. l ++ ds) h)) k
+tells_then a b nil u cs ds h k = rw h k
 tells_then a b (name x s r) u cs ds (q, rest, is, text, h) k = (q, rest ++ ds, ap (λ l. l ++ ds) is, text, tells_then a b r u rest ds h k)
 tells_then a b (mark c j s r) u cs ds (rest, is, h) k = (rest ++ ds, ap (λ l. l ++ ds) is, tells_then a b r u rest ds h k)
 tells_then a b (literal x s r) u cs ds (q, rest, is, text, h) k = (q, rest ++ ds, ap (λ l. l ++ ds) is, text, tells_then a b r u rest ds h k)
@@ -31,6 +31,4 @@ told_open a b fs t d w o cs h = (cs, [], refl, h, refl)
 
 pub told_close : (a b : List ℕ) (f : Frame) (fs : List Frame) (t : Trees ℕ) (c : ℕ) (cs : List Call) → Told a b cs (f ∷ fs) t → Told a b (cs ++ Close c ∷ []) fs (then f.before (ended f c t))
 told_close a b f fs t c cs (outer, inner, is, ho, hi) =
-    let open-it : Call = Open f.delimiter f.whole f.opening in
-    let whole : outer ++ open-it ∷ (inner ++ Close c ∷ []) ≡ cs ++ Close c ∷ [] = sym (ap (λ l. l ++ Close c ∷ []) is ∙ append_assoc outer (open-it ∷ inner) (Close c ∷ [])) in
-    subst (λ (l : List Call). Told a b l fs (then f.before (ended f c t))) whole (told_then a b fs f.before (ended f c t) outer _ ho (inner, [], refl, hi, refl))
+    rw (is, append_assoc outer (Open f.delimiter f.whole f.opening ∷ inner) (Close c ∷ [])) (told_then a b fs f.before (ended f c t) outer _ ho (inner, [], refl, hi, refl))

@@ -42,12 +42,10 @@ abbrev ahead : Trees ℕ → Levels → Levels
 ahead t l = levels_of (then t l.inner) l.outer
 
 reads_back : (a b : List ℕ) (t : Trees ℕ) (cs more : List Call) → Tells a b t cs → read_back a b (cs ++ more) ≡ ahead t (read_back a b more)
-reads_back a b nil cs more is = ap (λ l. read_back a b (l ++ more)) is
-reads_back a b (name x s r) cs more (q, rest, is, text, h) =
-    ap (λ l. read_back a b (l ++ more)) is ∙ ap (put a b (Name q s)) (reads_back a b r rest more h) ∙ ap (λ y. ahead (name y s r) (read_back a b more)) text
-reads_back a b (mark c k s r) cs more (rest, is, h) = ap (λ l. read_back a b (l ++ more)) is ∙ ap (put a b (Mark c k s)) (reads_back a b r rest more h)
-reads_back a b (literal x s r) cs more (q, rest, is, text, h) =
-    ap (λ l. read_back a b (l ++ more)) is ∙ ap (put a b (Literal q s)) (reads_back a b r rest more h) ∙ ap (λ y. ahead (literal y s r) (read_back a b more)) text
+reads_back a b nil cs more is = rw is
+reads_back a b (name x s r) cs more (q, rest, is, text, h) = rw (is, ← text) (ap (put a b (Name q s)) (reads_back a b r rest more h))
+reads_back a b (mark c k s r) cs more (rest, is, h) = rw is (ap (put a b (Mark c k s)) (reads_back a b r rest more h))
+reads_back a b (literal x s r) cs more (q, rest, is, text, h) = rw (is, ← text) (ap (put a b (Literal q s)) (reads_back a b r rest more h))
 reads_back a b (group d w o c i r) cs more (inner, rest, is, hi, hr) =
     let last : Levels = read_back a b more in
     let behind : Behind = record { closing = c; rest = then r last.inner } in
@@ -56,7 +54,7 @@ reads_back a b (group d w o c i r) cs more (inner, rest, is, hi, hr) =
     ∙ reads_back a b i inner (Close c ∷ (rest ++ more)) hi
     ∙ ap (λ l. ahead i (put a b (Close c) l)) (reads_back a b r rest more hr)
     ∙ ap (λ t. levels_of t (behind ∷ last.outer)) (then_nil i) in
-    ap (λ l. read_back a b (l ++ more)) is ∙ ap (put a b (Open d w o)) within
+    rw is (ap (put a b (Open d w o)) within)
 
 own_sheet : (a b : List ℕ) (t : Trees ℕ) (cs : List Call) → Tells a b t cs → (read_back a b cs).inner ≡ t
 own_sheet a b t cs h = ap (λ l. (read_back a b l).inner) (sym (append-nil cs)) ∙ ap (λ (l : Levels). l.inner) (reads_back a b t cs [] h) ∙ then_nil t

@@ -1,8 +1,9 @@
 -- What a fill call answers, and what the filling and the table are afterwards.
-use Rattle.std.specs.Prelude.{ℕ, ◌+◌, ◌-◌, cond, List, [], ◌∷◌, length, Some, None, Ok, Err, Option, Result, slice_index_or, slice_set}
+use Rattle.std.specs.Prelude.{◌≡◌, ℕ, ◌+◌, ◌-◌, cond, List, [], ◌∷◌, length, Some, None, Ok, Err, Option, Result, slice_index_or, slice_set}
 use Rattle.sheet.specs.Limits.{apostrophe}
 use Rattle.table.specs.declared.slot.Slot.{Slot}
 use Rattle.table.specs.declared.slot.Slot.TheVariants.{Group as SGroup, Name as SName, Mark as SMark, Literal as SLiteral, End as SEnd}
+use Rattle.table.specs.declared.texts.Texts.{Texts}
 use Rattle.filling.specs.Causes.{refusal}
 use Rattle.filling.specs.Progress.{Progress, progress}
 use Rattle.filling.specs.declared.call.Call.{Call}
@@ -67,3 +68,7 @@ filled None p call es = record { answer = Ok p.written; progress = moved p call;
 
 abbrev pub fill : List ℕ → List ℕ → Progress → Call → List Slot → Filled
 fill sheet template p call es = filled (refusal sheet template (length es) p call) p call es
+
+-- A call on this table and these texts is answered so, and leaves the filling and the table so.
+abbrev pub Fills : Texts → Progress → List Slot → Call → Result ℕ FillFault → Progress → List Slot → Type 0
+Fills texts p es call answer q fs = record { answer = answer; progress = q; entries = fs } ≡ fill texts.sheet.now texts.template.now p call es

@@ -1,9 +1,7 @@
--- How far a filling has come.
-use Rattle.std.specs.Prelude.{ℕ, List, []}
-use Rattle.rules.specs.Walks.{stack}
+-- How far a filling has come: what clauses see of it.
+use Rattle.std.specs.Prelude.{ℕ, ◌<◌, ◌≤◌, List, [], All}
 use Rattle.filling.specs.declared.call.State.{State}
 use Rattle.filling.specs.declared.call.State.TheVariants.{Open}
-use Rattle.filling.specs.declared.filling.Filling.{Filling}
 
 pub record Progress : Type 0 where
   pub state : State
@@ -19,5 +17,7 @@ progress s w gs = record { state = s; written = w; groups = gs }
 abbrev pub start : Progress
 start = progress Open 0 []
 
-abbrev pub progress_of : Filling → Progress
-progress_of f = progress f.state f.written (stack 0 f.groups f.depth)
+-- What is true of each filling: no more is written than counts of a table, and each open group stands within what is written.
+pub record IsBounded (written : ℕ) (groups : List ℕ) : Type 0 where
+  pub few : written ≤ 65535
+  pub behind : All (λ g. g < written) groups

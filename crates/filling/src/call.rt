@@ -1,8 +1,8 @@
 //! The fill calls, and why one is refused.
 use table::TextPlace;
 
-/// A fill call.
-#[derive(Clone, Copy)]
+/// A fill call. Delimiter and spacing are numbers as somebody wrote them; whether they are legal is what the answer says.
+#[derive(Clone, Copy, PartialEq, Eq, Debug)]
 pub enum Call {
     Name {
         place: TextPlace,
@@ -29,7 +29,7 @@ pub enum Call {
 }
 
 /// What a filling waits for.
-#[derive(Clone, Copy)]
+#[derive(Clone, Copy, PartialEq, Eq, Debug)]
 pub enum State {
     /// Any call.
     Open,

@@ -2,43 +2,42 @@
 ghost use Rattle.std.specs.Prelude.{◌≡◌};
 ghost use Rattle.filling.specs.Numbers.{fill_fault_number};
 
-/// Why a fill call is refused, in the order in which the causes are tried.
+/// Why a fill call is refused, in the order in which the causes are tried, each with its number.
 #[derive(Clone, Copy, PartialEq, Eq, Debug)]
 pub enum FillFault {
     /// The filling is sealed.
-    Sealed,
+    Sealed = 1,
     /// An apostrophe waits for its name.
-    NameWanted,
+    NameWanted = 2,
     /// The mark is not legal.
-    Mark,
+    Mark = 3,
     /// The text place is not good.
-    Text,
+    Text = 4,
     /// The delimiter is above 3.
-    Delimiter,
+    Delimiter = 5,
     /// No group is open that could be closed.
-    NoGroup,
+    NoGroup = 6,
     /// A group is still open.
-    GroupOpen,
+    GroupOpen = 7,
     /// 60 groups are open.
-    TooDeep,
+    TooDeep = 8,
     /// The table is too short.
-    TooShort,
+    TooShort = 9,
 }
 
 impl FillFault {
+    /// The number of the refusal.
     pub fn number(self) -> u8
         ensures { result ≡ fill_fault_number self }
     {
-        match self {
-            FillFault::Sealed => 1,
-            FillFault::NameWanted => 2,
-            FillFault::Mark => 3,
-            FillFault::Text => 4,
-            FillFault::Delimiter => 5,
-            FillFault::NoGroup => 6,
-            FillFault::GroupOpen => 7,
-            FillFault::TooDeep => 8,
-            FillFault::TooShort => 9,
-        }
+        u8::from(self)
+    }
+}
+
+impl From<FillFault> for u8 {
+    ghost from_gives = { λ fault number. number ≡ fill_fault_number fault };
+
+    fn from(fault: FillFault) -> u8 {
+        fault as u8
     }
 }

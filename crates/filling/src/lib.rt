@@ -2,9 +2,7 @@
 #![tactic(auto)]
 
 mod call;
-mod calls;
 mod fault;
-mod fill;
 mod filling;
 
 pub use call::{Call, State};

@@ -1,7 +1,7 @@
-//! The fill calls by their names, and how far a filling has come.
+//! The fill calls by their names, and how far a filling has come. A method reads well where a call is written out; `Call` is for
+//! lists of calls.
 ghost use Rattle.std.specs.Prelude.{◌≡◌};
-ghost use Rattle.filling.specs.Filling.{fill as fill_call};
-ghost use Rattle.filling.specs.Progress.{progress_of};
+ghost use Rattle.filling.specs.Filling.{Fills};
 ghost use Rattle.filling.specs.declared.call.Call.TheVariants.{Name as name_call, Mark as mark_call, Literal as literal_call, Open as open_call, Close as close_call, Seal as seal_call};
 
 use crate::call::Call;
@@ -12,7 +12,7 @@ use table::{Slot, TextPlace, Texts};
 impl Filling {
     /// How many entries are written.
     pub fn written(&self) -> usize
-        ensures { result ≡ (progress_of self.now).written }
+        ensures { result ≡ self.now.written }
     {
         self.written
     }
@@ -25,7 +25,7 @@ impl Filling {
         place: TextPlace,
         stamp: u32,
     ) -> Result<usize, FillFault>
-        ensures { record { answer = result; progress = progress_of self.new; entries = table.new } ≡ fill_call texts.entry.sheet.now texts.entry.template.now (progress_of self.old) (name_call place stamp) table.old }
+        ensures { Fills texts.entry self.old table.old (name_call place stamp) result self.new table.new }
     {
         self.fill(table, texts, Call::Name { place, stamp })
     }
@@ -39,7 +39,7 @@ impl Filling {
         spacing: u32,
         stamp: u32,
     ) -> Result<usize, FillFault>
-        ensures { record { answer = result; progress = progress_of self.new; entries = table.new } ≡ fill_call texts.entry.sheet.now texts.entry.template.now (progress_of self.old) (mark_call character spacing stamp) table.old }
+        ensures { Fills texts.entry self.old table.old (mark_call character spacing stamp) result self.new table.new }
     {
         self.fill(
             table,
@@ -60,7 +60,7 @@ impl Filling {
         place: TextPlace,
         stamp: u32,
     ) -> Result<usize, FillFault>
-        ensures { record { answer = result; progress = progress_of self.new; entries = table.new } ≡ fill_call texts.entry.sheet.now texts.entry.template.now (progress_of self.old) (literal_call place stamp) table.old }
+        ensures { Fills texts.entry self.old table.old (literal_call place stamp) result self.new table.new }
     {
         self.fill(table, texts, Call::Literal { place, stamp })
     }
@@ -74,7 +74,7 @@ impl Filling {
         whole: u32,
         opening: u32,
     ) -> Result<usize, FillFault>
-        ensures { record { answer = result; progress = progress_of self.new; entries = table.new } ≡ fill_call texts.entry.sheet.now texts.entry.template.now (progress_of self.old) (open_call delimiter whole opening) table.old }
+        ensures { Fills texts.entry self.old table.old (open_call delimiter whole opening) result self.new table.new }
     {
         self.fill(
             table,
@@ -94,14 +94,14 @@ impl Filling {
         texts: Texts<'_>,
         closing: u32,
     ) -> Result<usize, FillFault>
-        ensures { record { answer = result; progress = progress_of self.new; entries = table.new } ≡ fill_call texts.entry.sheet.now texts.entry.template.now (progress_of self.old) (close_call closing) table.old }
+        ensures { Fills texts.entry self.old table.old (close_call closing) result self.new table.new }
     {
         self.fill(table, texts, Call::Close { closing })
     }
 
     /// Ends the sheet.
     pub fn seal(&mut self, table: &mut [Slot], texts: Texts<'_>) -> Result<usize, FillFault>
-        ensures { record { answer = result; progress = progress_of self.new; entries = table.new } ≡ fill_call texts.entry.sheet.now texts.entry.template.now (progress_of self.old) seal_call table.old }
+        ensures { Fills texts.entry self.old table.old seal_call result self.new table.new }
     {
         self.fill(table, texts, Call::Seal)
     }
