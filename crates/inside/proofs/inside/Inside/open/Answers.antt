@@ -1,9 +1,11 @@
-use Rattle.std.proofs.Common.{sym, refl}
+use denote.Enum.Bare.{same_true}
+use Rattle.std.proofs.Common.{◌≡◌, sym, refl, ◌∙◌, rules}
+use Rattle.sheet.specs.contracts.kind.EntryKind.{the_type}
+use Rattle.sheet.specs.declared.kind.EntryKind.TheVariants.{Group}
 use Rattle.inside.proofs.Groups.{holds_only}
 use Rattle.inside.proofs.inside.Inside.open.Goals as goal
 
 pub returns-then-eq : goal.returns-then-eq
 returns-then-eq g c =
-    let h = c.if-eq.ensures in
-    let k = c.kind.ensures in
-    record { below_is = refl; place_is = refl; holds = holds_only _ c.args.place ?; is = refl }
+    let group : c.kind.result ≡ Group = same_true the_type (search rules) _ _ (sym c.eq.ensures ∙ c.if-eq.true) in
+    record { below_is = refl; place_is = refl; holds = holds_only _ c.args.place (sym c.kind.ensures ∙ group); is = refl }

@@ -1,4 +1,5 @@
-use Rattle.std.proofs.Common.{◌≡◌, ◌<◌, sym, refl, ap, ◌∙◌, arith}
+use Rattle.std.proofs.Common.{◌≡◌, ◌-◌, ◌<◌, sym, ap, ◌∙◌, arith}
+use Rattle.std.proofs.lemmas.Cmp.{ranked}
 use Rattle.sheet.specs.Trees.{size}
 use Rattle.sheet.specs.Entries.{entries, at}
 use Rattle.inside.specs.Opening.{contents_of}
@@ -10,14 +11,14 @@ overflow_sub-last g c = omega (arith, length_entries (contents_of g.S.Store.shee
 
 pub returns-in-Less-clause-is : goal.returns-in-Less-clause-is
 returns-in-Less-clause-is g c =
-    let h = c.in-Less.ensures in
     let i = contents_of g.S.Store.sheet c.args.self.now in
-    let inside : c.args.at < size i = omega (arith, length_entries i, c.span.ensures.is, h) in
+    let before : c.args.at < c.span.result - 1 = ranked _ _ _ c.in-Less.ensures in
+    let inside : c.args.at < size i = omega (arith, length_entries i, c.span.ensures.is) in
     entry_below _ c.args.self.now.place c.args.at inside
 
 pub returns-in-Equal-clause-is : goal.returns-in-Equal-clause-is
 returns-in-Equal-clause-is g c =
-    let h = c.in-Equal.ensures in
     let i = contents_of g.S.Store.sheet c.args.self.now in
-    let last : size i ≡ c.args.at = omega (arith, length_entries i, c.span.ensures.is, h) in
+    let on : c.args.at ≡ c.span.result - 1 = ranked _ _ _ c.in-Equal.ensures in
+    let last : size i ≡ c.args.at = omega (arith, length_entries i, c.span.ensures.is) in
     sym (entry_last i) ∙ ap (at (entries i)) last
