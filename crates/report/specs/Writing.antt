@@ -1,6 +1,6 @@
 -- A sheet as text. Its words are names, literals, marks and brackets. The gap between two of them is a blank; behind a joint
 -- mark there is none, and behind a lone `;` it is a new line.
-use Rattle.std.specs.Prelude.{ℕ, zero, suc, ◌/◌, ◌%◌, Bool, if◌then◌else◌, ◌&&◌, List, [], ◌∷◌, ◌++◌, ◌==◌, nat_le, Option, Some, None, codes, encode_utf8}
+use Rattle.std.specs.Prelude.{◌≡◌, ℕ, zero, suc, ◌/◌, ◌%◌, String, string_bytes, Bool, if◌then◌else◌, ◌&&◌, List, [], ◌∷◌, ◌++◌, ◌==◌, nat_le, Option, Some, None, codes, encode_utf8}
 use Rattle.std.specs.Char.{digit_char}
 use Rattle.std.specs.List.{flat_map}
 use Rattle.sheet.specs.Trees.{Trees, Bare, nil, name, mark, literal, group, bare, plain}
@@ -10,6 +10,10 @@ use Rattle.report.specs.declared.view.View.TheVariants.{Filled, Plain}
 abbrev pub viewed : {St : Type 0} → View → Trees St → Bare
 viewed Filled t = bare t
 viewed Plain t = plain t
+
+-- The bytes were put behind the text.
+abbrev pub Appends : {A : Type 0} → String A → String A → List ℕ → Type 0
+Appends old new bytes = string_bytes new ≡ string_bytes old ++ bytes
 
 abbrev pub printable : ℕ → Bool
 printable b = nat_le 32 b && nat_le b 126

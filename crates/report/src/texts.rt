@@ -2,7 +2,7 @@
 ghost use Rattle.std.specs.Prelude.{◌≡◌, ◌++◌, IfOk, string_bytes, OnOk};
 ghost use Rattle.sheet.specs.Plain.{NoneLeft, NothingElseChanged};
 ghost use Rattle.report.specs.Spelling.{word_said};
-ghost use Rattle.report.specs.Writing.{printable, escaped, gap_bytes, viewed, written};
+ghost use Rattle.report.specs.Writing.{Appends, printable, escape, escaped, gap_bytes, viewed, written};
 
 use crate::view::{View, Word};
 use crate::words::word_at;
@@ -15,15 +15,24 @@ fn is_printable(byte: u8) -> bool
     matches!(byte, b' '..=b'~')
 }
 
+fn push_escape(out: &mut String, byte: u8) -> Result<(), AllocError>
+    ensures { OnOk result (Appends out.old out.new (escape byte)) }
+{
+    out.push_str("\\x")?;
+    out.push(char::from_digit(u32::from(byte / 16), 16).unwrap())?;
+    out.push(char::from_digit(u32::from(byte % 16), 16).unwrap())?;
+    Ok(())
+}
+
 /// A text, each byte escaped unless it is printable ASCII.
 fn push_escaped(out: &mut String, text: &[u8]) -> Result<(), AllocError>
-    ensures { OnOk result (string_bytes out.new ≡ string_bytes out.old ++ escaped text.now) }
+    ensures { OnOk result (Appends out.old out.new (escaped text.now)) }
 {
     for byte in text {
         if is_printable(*byte) {
             out.push(char::from(*byte))?;
         } else {
-            write!(out, "\\x{byte:02x}")?;
+            push_escape(out, *byte)?;
         }
     }
     Ok(())
@@ -35,7 +44,7 @@ fn push_word(
     gap: Option<char>,
     word: Word<'_>,
 ) -> Result<Option<char>, AllocError>
-    ensures bytes { OnOk result (string_bytes out.new ≡ string_bytes out.old ++ (gap_bytes gap ++ (word_said word.entry).bytes)) }
+    ensures bytes { OnOk result (Appends out.old out.new (gap_bytes gap ++ (word_said word.entry).bytes)) }
     ensures gap { IfOk result (λ g. g ≡ (word_said word.entry).gap) }
 {
     if let Some(gap) = gap {

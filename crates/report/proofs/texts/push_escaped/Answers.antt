@@ -2,10 +2,9 @@ use Rattle.std.proofs.Common.{◌≡◌, ◌++◌, ℕ, List, [], ◌∷◌, ◌
 use Rattle.std.specs.List.{flat_map}
 use Rattle.std.proofs.lemmas.Grind.{common_steps}
 use Rattle.std.proofs.lemmas.List.{flat_map_more, take_more}
-use Rattle.std.proofs.lemmas.Fmt.{hex_byte}
 use Rattle.report.specs.Writing.{printable, escape, shown_byte, escaped}
 use Rattle.report.proofs.texts.push_escaped.Goals as goal
-use Rattle.report.proofs.texts.push_escaped.Goals.{then-is_printable+in_ok-push, else-is_printable+in_ok-write}
+use Rattle.report.proofs.texts.push_escaped.Goals.{then-is_printable+in_ok-push, else-is_printable+in_ok-push_escape}
 
 printable_small : (b : ℕ) → printable b ≡ true → b < 128
 printable_small b is = grind (arith, common_steps)
@@ -24,10 +23,8 @@ loop-byte-preserved c =
           let plain : shown_byte b ≡ b ∷ [] = rw is in
           let ascii = w.in_ok-push.ensures.ascii (omega (arith, printable_small b is)) in
           cc w.in_ok-push.ensures.bytes)
-      | else-is_printable+in_ok-write w ↦
+      | else-is_printable+in_ok-push_escape w ↦
           (let is : printable b ≡ false = sym c.is_printable.ensures ∙ w.if-is_printable.false in
           let shown : shown_byte b ≡ escape b = rw is in
-          let digits = hex_byte false b (c.type_inv.text c.loop-byte.byte-index).fits in
-          let wrote = (rw w.in_radix.ensures at (rw w.laid_out.ensures at w.in_ok-write.ensures.bytes)) in
-          (cc))
+          cc w.in_ok-push_escape.ensures)
     ])

@@ -1,7 +1,6 @@
 use Rattle.std.proofs.Common.{◌≡◌, ◌++◌, ℕ, ◌+◌, ◌<◌, List, drop, length, Option, None, Some, string_bytes, sym, ap, ◌∙◌, add-one, append_assoc, arith}
 use Rattle.sheet.specs.Entries.{Entry, at}
 use Rattle.sheet.proofs.Places.{drop_at}
-use Rattle.sheet.proofs.Plains.{none_left, nothing_else_changed}
 use Rattle.report.specs.Spelling.{Said, entry_said, spell, word_said}
 use Rattle.report.specs.Writing.{gap_bytes}
 use Rattle.report.specs.declared.view.View.{View}
@@ -29,4 +28,3 @@ loop-at-preserved g c =
       | in_default w ↦
           after_silence c.args.view _ _ _ _ c.loop-at.at _ _ c.loop-at.invariant (omega (arith, c.count-at-end.ensures.is)) (sym w.in_default.ensures) (ap string_bytes w.out-is) w.gap-is
     ]
-
