@@ -1,5 +1,6 @@
 -- Writing the entries of a flat form one by one writes the sheet.
 use Rattle.std.proofs.Common.{◌≡◌, ℕ, zero, suc, ◌+◌, ◌-◌, List, [], ◌∷◌, ◌++◌, drop, Option, Some, None, encode_utf8, sym, refl, ap, ◌∙◌, arith}
+use mathlib.Core.Path.{fun_ext}
 use Rattle.std.proofs.lemmas.List.{drop-drop}
 use Rattle.sheet.specs.Trees.{Trees, Bare, nil, name, mark, literal, group, size, then, bare, plain}
 use Rattle.sheet.specs.Entries.{Entry, Group, End, flat, entries, first, at}
@@ -10,22 +11,12 @@ use Rattle.report.specs.Spelling.{Said, bracket_said, entry_said, say, spell}
 use Rattle.report.specs.declared.view.View.{View}
 use Rattle.report.specs.declared.view.View.TheVariants.{Filled, Plain}
 
--- Text that goes on alike behind alike gaps.
-write_on : (t : Bare) (g : Option ℕ) (more less : Option ℕ → List ℕ) → ((h : Option ℕ) → more h ≡ less h) → write g t more ≡ write g t less
-write_on nil g more less e = e g
-write_on (name b s r) g more less e = ap (λ x. gap_bytes g ++ (escaped b ++ x)) (write_on r blank more less e)
-write_on (mark c k s r) g more less e = ap (λ x. gap_bytes g ++ (encode_utf8 c ++ x)) (write_on r (gap_behind c k) more less e)
-write_on (literal b s r) g more less e = ap (λ x. gap_bytes g ++ (escaped b ++ x)) (write_on r blank more less e)
-write_on (group d w o c i r) g more less e =
-    ap (λ x. gap_bytes g ++ (encode_utf8 (opening_sign d) ++ x)) (write_on i blank _ _ (λ h. ap (λ x. gap_bytes h ++ (encode_utf8 (closing_sign d) ++ x)) (write_on r blank more less e)))
-
 write_then : (t u : Bare) (g : Option ℕ) (more : Option ℕ → List ℕ) → write g (then t u) more ≡ write g t (λ h. write h u more)
 write_then nil u g more = refl
-write_then (name b s r) u g more = ap (λ x. gap_bytes g ++ (escaped b ++ x)) (write_then r u blank more)
-write_then (mark c k s r) u g more = ap (λ x. gap_bytes g ++ (encode_utf8 c ++ x)) (write_then r u (gap_behind c k) more)
-write_then (literal b s r) u g more = ap (λ x. gap_bytes g ++ (escaped b ++ x)) (write_then r u blank more)
-write_then (group d w o c i r) u g more =
-    ap (λ x. gap_bytes g ++ (encode_utf8 (opening_sign d) ++ x)) (write_on i blank _ _ (λ h. ap (λ x. gap_bytes h ++ (encode_utf8 (closing_sign d) ++ x)) (write_then r u blank more)))
+write_then (name b s r) u g more = rw (write_then r u blank more)
+write_then (mark c k s r) u g more = rw (write_then r u (gap_behind c k) more)
+write_then (literal b s r) u g more = rw (write_then r u blank more)
+write_then (group d w o c i r) u g more = rw (write_then r u blank more)
 
 -- An End closes the group at the place that its distance leads back to.
 end_is : {St : Type 0} (v : View) (es : List (Entry St)) (p q m d x : ℕ) (w o c : St) (r : List (Entry St)) → drop p es ≡ Group x d w o c ∷ r → q ≡ p + suc m → entry_said v es q (End (suc m)) ≡ bracket_said v d (closing_sign d)
@@ -71,26 +62,23 @@ group_written Filled d i r g more = refl
 group_written Plain zero i r g more = sym (write_then i r g more)
 group_written Plain (suc d) i r g more = refl
 
-say_on : (s : Option Said) (g : Option ℕ) (more less : Option ℕ → List ℕ) → ((h : Option ℕ) → more h ≡ less h) → say g s more ≡ say g s less
-say_on None g more less e = e g
-say_on (Some w) g more less e = ap (λ x. gap_bytes g ++ (w.bytes ++ x)) (e w.gap)
-
 tail_of : {St : Type 0} (es : List (Entry St)) (p : ℕ) (e : Entry St) (r : List (Entry St)) → drop p es ≡ e ∷ r → drop (suc p) es ≡ r
 tail_of es p e r h = let one : suc p ≡ p + 1 = omega arith in ap (λ n. drop n es) one ∙ sym (drop-drop 1 p es) ∙ ap (drop 1) h
 
 -- From place p of es on stand the trees t, and then ks, at place q.
 spell_flat : {St : Type 0} (v : View) (es : List (Entry St)) (t : Trees St) (ks : List (Entry St)) (p q : ℕ) (g : Option ℕ) → drop p es ≡ flat t ks → q ≡ p + size t → spell v es p g (flat t ks) ≡ write g (seen v t) (λ h. spell v es q h ks)
 spell_flat v es nil ks p q g here far = let e : p ≡ q = omega arith in ap (λ n. spell v es n g ks) e
-spell_flat v es (name b s r) ks p q g here far = ap (λ x. gap_bytes g ++ (escaped b ++ x)) (spell_flat v es r ks (suc p) q blank (tail_of es p _ _ here) (omega arith))
-spell_flat v es (mark c k s r) ks p q g here far = ap (λ x. gap_bytes g ++ (encode_utf8 c ++ x)) (spell_flat v es r ks (suc p) q (gap_behind c k) (tail_of es p _ _ here) (omega arith))
-spell_flat v es (literal b s r) ks p q g here far = ap (λ x. gap_bytes g ++ (escaped b ++ x)) (spell_flat v es r ks (suc p) q blank (tail_of es p _ _ here) (omega arith))
-spell_flat v es (group d w o c i r) ks p q g here far =
+spell_flat v es (name b s r) ks p q g here far = rw (spell_flat v es r ks (suc p) q blank (tail_of es p _ _ here) (omega arith))
+spell_flat v es (mark c k s r) ks p q g here far = rw (spell_flat v es r ks (suc p) q (gap_behind c k) (tail_of es p _ _ here) (omega arith))
+spell_flat v es (literal b s r) ks p q g here far = rw (spell_flat v es r ks (suc p) q blank (tail_of es p _ _ here) (omega arith))
+spell_flat {St} v es (group d w o c i r) ks p q g here far =
     let m : ℕ = suc p + size i in
-    let inside : drop (suc p) es ≡ flat i (End (suc (size i)) ∷ flat r ks) = tail_of es p _ _ here in
-    let at-end : drop m es ≡ End (suc (size i)) ∷ flat r ks = sym (drop-drop (size i) (suc p) es) ∙ ap (drop (size i)) inside ∙ drop_flat i (End (suc (size i)) ∷ flat r ks) in
-    let closed : (k : Option ℕ) → spell v es m k (End (suc (size i)) ∷ flat r ks) ≡ say k (bracket_said v d (closing_sign d)) (λ l. write l (seen v r) (λ h. spell v es q h ks))
-    = λ k. ap (λ s. say k s (λ l. spell v es (suc m) l (flat r ks))) (end_is v es p m (size i) d _ w o c _ here (omega arith)) ∙ say_on (bracket_said v d (closing_sign d)) k _ _ (λ l. spell_flat v es r ks (suc m) q l (tail_of es m _ _ at-end) (omega arith)) in
-    say_on (bracket_said v d (opening_sign d)) g _ _ (λ h. spell_flat v es i (End (suc (size i)) ∷ flat r ks) (suc p) m h inside refl ∙ write_on (seen v i) h _ _ closed)
+    let behind : List (Entry St) = End (suc (size i)) ∷ flat r ks in
+    let inside : drop (suc p) es ≡ flat i behind = tail_of es p _ _ here in
+    let at-end : drop m es ≡ behind = sym (drop-drop (size i) (suc p) es) ∙ ap (drop (size i)) inside ∙ drop_flat i behind in
+    let closed : (k : Option ℕ) → spell v es m k behind ≡ say k (bracket_said v d (closing_sign d)) (λ l. write l (seen v r) (λ h. spell v es q h ks))
+    = λ k. rw (end_is v es p m (size i) d _ w o c _ here (omega arith)) (ap (say k (bracket_said v d (closing_sign d))) (fun_ext (λ l. spell_flat v es r ks (suc m) q l (tail_of es m _ _ at-end) (omega arith)))) in
+    ap (say g (bracket_said v d (opening_sign d))) (fun_ext (λ h. spell_flat v es i behind (suc p) m h inside refl ∙ ap (write h (seen v i)) (fun_ext closed)))
     ∙ group_written v d (seen v i) (seen v r) g (λ h. spell v es q h ks)
 
 pub spell_entries : {St : Type 0} (v : View) (t : Trees St) → spell v (entries t) 0 None (entries t) ≡ written (viewed v t)
