@@ -1,13 +1,13 @@
 -- Writing the entries of a flat form one by one writes the sheet.
-use Rattle.std.proofs.Common.{◌≡◌, ℕ, zero, suc, ◌+◌, ◌-◌, List, [], ◌∷◌, ◌++◌, drop, Option, Some, None, encode_utf8, sym, refl, ap, ◌∙◌, arith}
+use Rattle.std.proofs.Common.{◌≡◌, ℕ, zero, suc, ◌+◌, ◌-◌, List, [], ◌∷◌, drop, Option, None, sym, refl, ap, ◌∙◌, arith}
 use mathlib.Core.Path.{fun_ext}
 use Rattle.std.proofs.lemmas.List.{drop-drop}
 use Rattle.sheet.specs.Trees.{Trees, Bare, nil, name, mark, literal, group, size, then, bare, plain}
 use Rattle.sheet.specs.Entries.{Entry, Group, End, flat, entries, first, at}
 use Rattle.sheet.specs.Questions.{delimiter_of}
 use Rattle.sheet.proofs.Places.{drop_flat}
-use Rattle.report.specs.Writing.{viewed, escaped, gap_bytes, blank, gap_behind, opening_sign, closing_sign, write, written}
-use Rattle.report.specs.Spelling.{Said, bracket_said, entry_said, say, spell}
+use Rattle.report.specs.Writing.{viewed, blank, gap_behind, write, written}
+use Rattle.report.specs.Spelling.{opening_said, closing_said, entry_said, say, spell}
 use Rattle.report.specs.declared.view.View.{View}
 use Rattle.report.specs.declared.view.View.TheVariants.{Filled, Plain}
 
@@ -19,10 +19,10 @@ write_then (literal b s r) u g more = rw (write_then r u blank more)
 write_then (group d w o c i r) u g more = rw (write_then r u blank more)
 
 -- An End closes the group at the place that its distance leads back to.
-end_is : {St : Type 0} (v : View) (es : List (Entry St)) (p q m d x : ℕ) (w o c : St) (r : List (Entry St)) → drop p es ≡ Group x d w o c ∷ r → q ≡ p + suc m → entry_said v es q (End (suc m)) ≡ bracket_said v d (closing_sign d)
+end_is : {St : Type 0} (v : View) (es : List (Entry St)) (p q m d x : ℕ) (w o c : St) (r : List (Entry St)) → drop p es ≡ Group x d w o c ∷ r → q ≡ p + suc m → entry_said v es q (End (suc m)) ≡ closing_said v d
 end_is v es p q m d x w o c r here far =
     let back : q - suc m ≡ p = omega arith in
-    ap (λ n. bracket_said v n (closing_sign n)) (ap (λ n. delimiter_of (at es n)) back ∙ ap (λ l. delimiter_of (first l)) here)
+    ap (closing_said v) (ap (λ n. delimiter_of (at es n)) back ∙ ap (λ l. delimiter_of (first l)) here)
 
 -- The two views of a sheet, tree by tree.
 abbrev regroup : View → ℕ → Bare → Bare → Bare
@@ -57,7 +57,7 @@ viewed_is Filled t = seen_filled t
 viewed_is Plain t = seen_plain t
 
 -- What a group's two brackets say, in one view, and how it is then written.
-group_written : (v : View) (d : ℕ) (i r : Bare) (g : Option ℕ) (more : Option ℕ → List ℕ) → say g (bracket_said v d (opening_sign d)) (λ h. write h i (λ k. say k (bracket_said v d (closing_sign d)) (λ l. write l r more))) ≡ write g (regroup v d i r) more
+group_written : (v : View) (d : ℕ) (i r : Bare) (g : Option ℕ) (more : Option ℕ → List ℕ) → say g (opening_said v d) (λ h. write h i (λ k. say k (closing_said v d) (λ l. write l r more))) ≡ write g (regroup v d i r) more
 group_written Filled d i r g more = refl
 group_written Plain zero i r g more = sym (write_then i r g more)
 group_written Plain (suc d) i r g more = refl
@@ -76,9 +76,9 @@ spell_flat {St} v es (group d w o c i r) ks p q g here far =
     let behind : List (Entry St) = End (suc (size i)) ∷ flat r ks in
     let inside : drop (suc p) es ≡ flat i behind = tail_of es p _ _ here in
     let at-end : drop m es ≡ behind = sym (drop-drop (size i) (suc p) es) ∙ ap (drop (size i)) inside ∙ drop_flat i behind in
-    let closed : (k : Option ℕ) → spell v es m k behind ≡ say k (bracket_said v d (closing_sign d)) (λ l. write l (seen v r) (λ h. spell v es q h ks))
-    = λ k. rw (end_is v es p m (size i) d _ w o c _ here (omega arith)) (ap (say k (bracket_said v d (closing_sign d))) (fun_ext (λ l. spell_flat v es r ks (suc m) q l (tail_of es m _ _ at-end) (omega arith)))) in
-    ap (say g (bracket_said v d (opening_sign d))) (fun_ext (λ h. spell_flat v es i behind (suc p) m h inside refl ∙ ap (write h (seen v i)) (fun_ext closed)))
+    let closed : (k : Option ℕ) → spell v es m k behind ≡ say k (closing_said v d) (λ l. write l (seen v r) (λ h. spell v es q h ks))
+    = λ k. rw (end_is v es p m (size i) d _ w o c _ here (omega arith)) (ap (say k (closing_said v d)) (fun_ext (λ l. spell_flat v es r ks (suc m) q l (tail_of es m _ _ at-end) (omega arith)))) in
+    ap (say g (opening_said v d)) (fun_ext (λ h. spell_flat v es i behind (suc p) m h inside refl ∙ ap (write h (seen v i)) (fun_ext closed)))
     ∙ group_written v d (seen v i) (seen v r) g (λ h. spell v es q h ks)
 
 pub spell_entries : {St : Type 0} (v : View) (t : Trees St) → spell v (entries t) 0 None (entries t) ≡ written (viewed v t)

@@ -1,5 +1,5 @@
 -- Writing entry by entry, as the loop does it.
-use Rattle.std.specs.Prelude.{ℕ, zero, suc, ◌-◌, List, [], ◌∷◌, ◌++◌, Option, Some, None, encode_utf8}
+use Rattle.std.specs.Prelude.{ℕ, zero, suc, ◌-◌, List, [], ◌∷◌, ◌++◌, Option, Some, None, option_map, encode_utf8}
 use Rattle.sheet.specs.Entries.{Entry, at}
 use Rattle.sheet.specs.Questions.{Token, a_name, a_literal, a_mark, a_group, no_token, token_of, distance_of, delimiter_of}
 use Rattle.report.specs.Writing.{escaped, gap_bytes, blank, gap_behind, opening_sign, closing_sign}
@@ -20,22 +20,28 @@ abbrev pub word_said : Word → Said
 word_said (Text b) = said (escaped b.now) blank
 word_said (Sign c g) = said (encode_utf8 c) g
 
--- A bracket of a group of this delimiter.
-abbrev pub bracket_said : View → ℕ → ℕ → Option Said
-bracket_said Filled d c = Some (said (encode_utf8 c) blank)
-bracket_said Plain zero c = None
-bracket_said Plain (suc d) c = Some (said (encode_utf8 c) blank)
+-- The two brackets of a group of this delimiter.
+abbrev pub brackets_of : View → ℕ → Option (ℕ × ℕ)
+brackets_of Filled d = Some (opening_sign d, closing_sign d)
+brackets_of Plain zero = None
+brackets_of Plain (suc d) = Some (opening_sign (suc d), closing_sign (suc d))
+
+abbrev pub opening_said : View → ℕ → Option Said
+opening_said v d = option_map (λ b. said (encode_utf8 b.0) blank) (brackets_of v d)
+
+abbrev pub closing_said : View → ℕ → Option Said
+closing_said v d = option_map (λ b. said (encode_utf8 b.1) blank) (brackets_of v d)
 
 -- An End by the distance to its Group and that Group's delimiter; the last End, with distance 0, has no bracket.
 abbrev pub end_said : View → ℕ → ℕ → Option Said
 end_said v zero d = None
-end_said v (suc x) d = bracket_said v d (closing_sign d)
+end_said v (suc x) d = closing_said v d
 
 abbrev pub token_word : View → Token → Option Said → Option Said
 token_word v (a_name b) end = Some (said (escaped b) blank)
 token_word v (a_literal b) end = Some (said (escaped b) blank)
 token_word v (a_mark c k) end = Some (said (encode_utf8 c) (gap_behind c k))
-token_word v (a_group d) end = bracket_said v d (opening_sign d)
+token_word v (a_group d) end = opening_said v d
 token_word v no_token end = end
 
 -- What the entry e at place p of the entries es says, if it says anything.

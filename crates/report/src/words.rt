@@ -2,8 +2,8 @@
 ghost use Rattle.std.specs.Prelude.{◌≡◌, option_map};
 ghost use Rattle.sheet.specs.Entries.{entries, at as entry_at};
 ghost use Rattle.sheet.specs.Numbers.{delimiter_number, spacing_number};
-ghost use Rattle.report.specs.Spelling.{bracket_said, word_said, entry_said};
-ghost use Rattle.report.specs.Writing.{gap_behind, opening_sign, closing_sign};
+ghost use Rattle.report.specs.Spelling.{brackets_of, word_said, entry_said};
+ghost use Rattle.report.specs.Writing.{gap_behind};
 
 use crate::view::{View, Word};
 use sheet::{Delimiter, Spacing, Store, Tree};
@@ -19,35 +19,16 @@ fn gap_after(character: char, spacing: Spacing) -> Option<char>
     }
 }
 
-fn opening(delimiter: Delimiter) -> char
-    ensures { result ≡ opening_sign (delimiter_number delimiter) }
-{
-    match delimiter {
-        Delimiter::Invisible => '⟨',
-        Delimiter::Parenthesis => '(',
-        Delimiter::Brace => '{',
-        Delimiter::Bracket => '[',
-    }
-}
-
-fn closing(delimiter: Delimiter) -> char
-    ensures { result ≡ closing_sign (delimiter_number delimiter) }
-{
-    match delimiter {
-        Delimiter::Invisible => '⟩',
-        Delimiter::Parenthesis => ')',
-        Delimiter::Brace => '}',
-        Delimiter::Bracket => ']',
-    }
-}
-
-/// A bracket of a group; the plain reading has none for an invisible group.
-fn bracket(view: View, delimiter: Delimiter, sign: char) -> Option<Word<'static>>
-    ensures { option_map word_said result ≡ bracket_said view (delimiter_number delimiter) sign }
+/// The two brackets of a group; the plain reading has none for an invisible group.
+fn brackets(view: View, delimiter: Delimiter) -> Option<(char, char)>
+    ensures { result ≡ brackets_of view (delimiter_number delimiter) }
 {
     match (view, delimiter) {
         (View::Plain, Delimiter::Invisible) => None,
-        _ => Some(Word::Sign(sign, Some(' '))),
+        (_, Delimiter::Invisible) => Some(('⟨', '⟩')),
+        (_, Delimiter::Parenthesis) => Some(('(', ')')),
+        (_, Delimiter::Brace) => Some(('{', '}')),
+        (_, Delimiter::Bracket) => Some(('[', ']')),
     }
 }
 
@@ -61,14 +42,18 @@ pub(crate) fn word_at<S: Store>(store: &S, at: usize, view: View) -> Option<Word
         Some(Tree::Mark(character, spacing)) => {
             Some(Word::Sign(character, gap_after(character, spacing)))
         }
-        Some(Tree::Group(delimiter)) => bracket(view, delimiter, opening(delimiter)),
+        Some(Tree::Group(delimiter)) => {
+            let (opening, _) = brackets(view, delimiter)?;
+            Some(Word::Sign(opening, Some(' ')))
+        }
         None => {
             let distance = store.distance(at);
             if distance == 0 {
                 return None;
             }
             let delimiter = store.delimiter(at.saturating_sub(distance));
-            bracket(view, delimiter, closing(delimiter))
+            let (_, closing) = brackets(view, delimiter)?;
+            Some(Word::Sign(closing, Some(' ')))
         }
     }
 }
