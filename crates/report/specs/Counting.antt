@@ -1,8 +1,8 @@
 -- How many trees of each kind a sheet has, at every depth.
-use Rattle.std.specs.Prelude.{ℕ, zero, suc, ◌+◌, length}
+use Rattle.std.specs.Prelude.{ℕ, zero, ◌+◌, length}
 use Rattle.sheet.specs.Trees.{Trees, nil, name, mark, literal, group}
 use Rattle.sheet.specs.Entries.{entries}
-use Rattle.sheet.specs.Questions.{Token, a_name, a_literal, a_mark, a_group, no_token}
+use Rattle.sheet.specs.Questions.{Token, a_name, a_literal, a_mark, a_group}
 use Rattle.report.specs.declared.counts.Counts.{Counts}
 
 -- The sum of a number of each tree, groups with their contents.
@@ -16,39 +16,23 @@ sum_over f (group d w o c i r) = f (a_group d) + (sum_over f i + sum_over f r)
 -- 1 for a tree of the kind, 0 for any other
 abbrev pub one_name : Token → ℕ
 one_name (a_name b) = 1
-one_name (a_literal b) = 0
-one_name (a_mark c k) = 0
-one_name (a_group d) = 0
-one_name no_token = 0
+one_name t = 0
 
 abbrev pub one_literal : Token → ℕ
-one_literal (a_name b) = 0
 one_literal (a_literal b) = 1
-one_literal (a_mark c k) = 0
-one_literal (a_group d) = 0
-one_literal no_token = 0
+one_literal t = 0
 
 abbrev pub one_mark : Token → ℕ
-one_mark (a_name b) = 0
-one_mark (a_literal b) = 0
 one_mark (a_mark c k) = 1
-one_mark (a_group d) = 0
-one_mark no_token = 0
+one_mark t = 0
 
 abbrev pub one_group : Token → ℕ
-one_group (a_name b) = 0
-one_group (a_literal b) = 0
-one_group (a_mark c k) = 0
 one_group (a_group d) = 1
-one_group no_token = 0
+one_group t = 0
 
 abbrev pub one_invisible : Token → ℕ
-one_invisible (a_name b) = 0
-one_invisible (a_literal b) = 0
-one_invisible (a_mark c k) = 0
 one_invisible (a_group zero) = 1
-one_invisible (a_group (suc d)) = 0
-one_invisible no_token = 0
+one_invisible t = 0
 
 abbrev pub counts_of : {St : Type 0} → Trees St → Counts
 counts_of t = record {
