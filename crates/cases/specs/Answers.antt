@@ -1,11 +1,9 @@
 -- What a question is answered, and how the answer is written.
-use Rattle.std.specs.Prelude.{ℕ, List, [], ◌++◌, codes, decimal}
-use Rattle.sheet.specs.Numbers.{fault_number}
+use Rattle.std.specs.Prelude.{ℕ, List, codes}
 use Rattle.sheet.specs.Trees.{Trees}
-use Rattle.sheet.specs.declared.fault.StoreFault.{StoreFault}
-use Rattle.sheet.specs.declared.fault.StoreFault.TheVariants.{Frame, Rules}
 use Rattle.packed.specs.Opening.{Means, Refuses}
 use Rattle.packed.specs.declared.stamp.Stamp.{Stamp}
+use Rattle.case_text.specs.Refusals.{refusal_text}
 use Rattle.cases.specs.declared.answer.Answer.{Answer}
 use Rattle.cases.specs.declared.answer.Answer.TheVariants.{Ok, Refused, Closed, Unknown}
 
@@ -16,13 +14,8 @@ Opening bs (Refused fault) = Refuses bs fault
 Opening bs Closed = ⊥
 Opening bs Unknown = ⊥
 
--- A refusal by the rules adds the place.
-abbrev pub place_text : StoreFault → List ℕ
-place_text Frame = []
-place_text (Rules place rule) = codes " " ++ decimal place
-
 abbrev pub answer_text : Answer → List ℕ
 answer_text Ok = codes "ok"
-answer_text (Refused fault) = codes "no " ++ (decimal (fault_number fault) ++ place_text fault)
+answer_text (Refused fault) = refusal_text fault
 answer_text Closed = codes "closed"
 answer_text Unknown = codes "unknown"

@@ -1,5 +1,6 @@
-pub mod Questions
-pub mod Digits
+pub use Rattle.case_text.specs.Faults
+pub use Rattle.case_text.specs.Questions
+pub use Rattle.case_text.specs.Digits
 pub mod Answers
 pub mod Steps
 pub mod Texts

@@ -1,7 +1,7 @@
 -- The answers of a case, question by question.
 use Rattle.std.specs.Prelude.{◌≡◌, ℕ, ◌⊎◌, List, ◌++◌, Some, codes}
 use Rattle.cases.specs.Answers.{Opening}
-use Rattle.cases.specs.Digits.{hex_bytes}
+use Rattle.case_text.specs.Digits.{hex_bytes}
 use Rattle.cases.specs.declared.answer.Answer.{Answer}
 use Rattle.cases.specs.declared.answer.Answer.TheVariants.{Ok, Refused, Closed, Unknown}
 use Rattle.cases.specs.declared.case.Case.{Case}

@@ -2,6 +2,7 @@
 ghost use Rattle.std.specs.Prelude.{Some};
 ghost use Rattle.cases.specs.Answers.{Opening, answer_text};
 
+use case_text::Refusal;
 use packed::Packed;
 use sheet::StoreFault;
 use std::fmt;
@@ -23,13 +24,7 @@ impl fmt::Display for Answer {
     fn fmt<W: fmt::Write>(&self, f: &mut fmt::Formatter<W>) -> fmt::Result {
         match self {
             Answer::Ok => f.write_str("ok"),
-            Answer::Refused(fault) => {
-                let number = fault.number();
-                match fault {
-                    StoreFault::Frame => write!(f, "no {number}"),
-                    StoreFault::Rules { place, .. } => write!(f, "no {number} {place}"),
-                }
-            }
+            Answer::Refused(fault) => write!(f, "{}", Refusal(*fault)),
             Answer::Closed => f.write_str("closed"),
             Answer::Unknown => f.write_str("unknown"),
         }

@@ -1,9 +1,11 @@
 //! A case, question by question.
-ghost use Rattle.std.specs.Prelude.{◌≡◌, IfOk};
-ghost use Rattle.cases.specs.Steps.{First, Steps, begun as begun_by};
+ghost use Rattle.std.specs.Prelude.{◌≡◌, ℕ, List, IfOk, IfErr};
+ghost use Rattle.case_text.specs.declared.fault.LineFault.TheVariants.{Unknown};
+ghost use Rattle.cases.specs.Answers.{Opening};
+ghost use Rattle.cases.specs.Steps.{HandsOver, First, Steps, begun as begun_by};
 
 use crate::answer::{Answer, opening};
-use crate::hex::{HexFault, from_hex};
+use case_text::{LineFault, from_hex};
 use std::alloc::{AllocError, Global};
 
 /// How far a case has come.
@@ -30,11 +32,13 @@ impl Case {
             Case::Unknown => Ok((Case::Unknown, Answer::Unknown)),
         }
     }
+}
 
-    /// The case once its first question was answered so.
-    fn after(answer: Answer) -> Case
-        ensures { result ≡ begun_by answer }
-    {
+/// The case once its first question was answered so.
+impl From<Answer> for Case {
+    ghost from_gives = { λ a c. c ≡ begun_by a };
+
+    fn from(answer: Answer) -> Case {
         match answer {
             Answer::Ok => Case::Open,
             Answer::Refused(_) => Case::Closed,
@@ -48,20 +52,18 @@ impl Case {
 fn begun(heap: Global, question: &[u8]) -> Result<(Case, Answer), AllocError>
     ensures { IfOk result (λ p. First question.now p.1 × (p.0 ≡ begun_by p.1)) }
 {
-    let answer = first_answer(heap, question)?;
-    Ok((Case::after(answer), answer))
+    match first_answer(heap, question) {
+        Ok(answer) => Ok((Case::from(answer), answer)),
+        Err(LineFault::Unknown) => Ok((Case::Unknown, Answer::Unknown)),
+        Err(LineFault::Memory) => Err(AllocError),
+    }
 }
 
 /// The first question of a case is `packed HEX`.
-fn first_answer(heap: Global, question: &[u8]) -> Result<Answer, AllocError>
-    ensures { IfOk result (λ a. First question.now a) }
+fn first_answer(heap: Global, question: &[u8]) -> Result<Answer, LineFault>
+    ensures opens { IfOk result (λ a. (bs : List ℕ) × HandsOver question.now bs × Opening bs a) }
+    ensures unknown { IfErr result (λ e. e ≡ Unknown → (bs : List ℕ) → HandsOver question.now bs → ⊥) }
 {
-    let Some(text) = question.strip_prefix(b"packed ") else {
-        return Ok(Answer::Unknown);
-    };
-    match from_hex(heap, text) {
-        Ok(bytes) => Ok(opening(bytes)),
-        Err(HexFault::NotHexadecimal) => Ok(Answer::Unknown),
-        Err(HexFault::Memory) => Err(AllocError),
-    }
+    let text = question.strip_prefix(b"packed ").ok_or(LineFault::Unknown)?;
+    Ok(opening(from_hex(heap, text)?))
 }

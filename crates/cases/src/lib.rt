@@ -1,14 +1,11 @@
-//! Cases that are replayed: the parts of their lines, and what their questions are answered.
+//! Cases that are replayed: what their questions are answered.
 #![tactic(auto)]
 
 mod answer;
 mod case;
-mod hex;
-mod line;
 mod text;
 
 pub use answer::{Answer, opening};
 pub use case::Case;
-pub use hex::{HexFault, from_hex};
-pub use line::question;
+pub use case_text::{LineFault, from_hex, question};
 pub use text::replayed;

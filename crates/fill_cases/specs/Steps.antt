@@ -3,12 +3,10 @@ use Rattle.std.specs.Prelude.{◌≡◌, ℕ, List, take, Some, None, Ok, Err, v
 use Rattle.std.specs.declared.alloc.Global.{Global}
 use Rattle.packed.specs.Opening.{Opens as OpensBytes, sheet_of as packed_sheet}
 use Rattle.packed.specs.declared.packed.Packed.{Packed}
-use Rattle.packed.specs.declared.packed.Refused.{Refused as PackedRefused}
 use Rattle.table.specs.Opening.{Opens as OpensParts, sheet_of as table_sheet}
 use Rattle.table.specs.declared.parts.Parts.{Parts}
-use Rattle.table.specs.declared.parts.Refused.{Refused as TableRefused}
 use Rattle.table.specs.declared.table.Table.{Table}
-use Rattle.inside.specs.Opening.{OpensInside, GoesInside, no_group_number}
+use Rattle.inside.specs.Opening.{OpensInside, GoesInside}
 use Rattle.inside.specs.declared.inside.Inside.{Inside}
 use Rattle.inside.specs.declared.inside.NoGroup.{NoGroup as NoGroupThere}
 use Rattle.filling.specs.Filling.{fill}
@@ -37,27 +35,27 @@ abbrev pub Is : Case → Answer → Case → Answer → Type 0
 Is c a d b = (d ≡ c) × (b ≡ a)
 
 -- The store that was opened, or the reason why it was not.
-abbrev pub packed_opened : Result Packed PackedRefused → Case
+abbrev pub packed_opened : Result Packed (Refused (Vec ℕ Global)) → Case
 packed_opened (Ok s) = PackedCase s
 packed_opened (Err e) = ClosedCase
 
-abbrev pub packed_said : Result Packed PackedRefused → Answer
+abbrev pub packed_said : Result Packed (Refused (Vec ℕ Global)) → Answer
 packed_said (Ok s) = SaidOk
 packed_said (Err e) = NotOpened e.fault
 
 abbrev pub OpensPacked : Vec ℕ Global → Case → Answer → Type 0
-OpensPacked v d b = (r : Result Packed PackedRefused) × OpensBytes v r × Is (packed_opened r) (packed_said r) d b
+OpensPacked v d b = (r : Result Packed (Refused (Vec ℕ Global))) × OpensBytes v r × Is (packed_opened r) (packed_said r) d b
 
-abbrev pub table_opened : Result Table TableRefused → Case
+abbrev pub table_opened : Result Table (Refused Parts) → Case
 table_opened (Ok s) = TableCase s
 table_opened (Err e) = ClosedCase
 
-abbrev pub table_said : Result Table TableRefused → Answer
+abbrev pub table_said : Result Table (Refused Parts) → Answer
 table_said (Ok s) = SaidOk
 table_said (Err e) = NotOpened e.fault
 
 abbrev pub OpensTable : Parts → Case → Answer → Type 0
-OpensTable p d b = (r : Result Table TableRefused) × OpensParts p r × Is (table_opened r) (table_said r) d b
+OpensTable p d b = (r : Result Table (Refused Parts)) × OpensParts p r × Is (table_opened r) (table_said r) d b
 
 -- A line that is no question of the case changes nothing.
 abbrev pub NotKnown : Case → Case → Answer → Type 0
@@ -109,7 +107,7 @@ Begins VOther rest d b = NotKnown UnknownCase d b
 
 abbrev pub entered_said : {A E : Type 0} → Result A E → Answer
 entered_said (Ok v) = SaidOk
-entered_said (Err e) = NoGroup no_group_number
+entered_said (Err e) = NoGroup
 
 abbrev pub packed_entered : Result (Inside Packed) (NoGroupThere Packed) → Case
 packed_entered (Ok v) = InPackedCase v

@@ -2,7 +2,9 @@
 ghost use Rattle.std.specs.Prelude.{Some};
 ghost use Rattle.fill_cases.specs.Answers.{answer_text};
 
+use case_text::Refusal;
 use filling::FillFault;
+use inside::NoGroup;
 use sheet::StoreFault;
 use std::fmt;
 
@@ -14,8 +16,8 @@ pub enum Answer {
     Wrote(usize),
     NotOpened(StoreFault),
     NotFilled(FillFault),
-    /// No group stands at the place: the number of that refusal.
-    NoGroup(u8),
+    /// No group stands at the place.
+    NoGroup,
     /// The entries of the table.
     Entries,
     /// The question has no answer by its nature.
@@ -33,18 +35,15 @@ impl fmt::Display for Answer {
         match self {
             Answer::Ok => f.write_str("ok"),
             Answer::Wrote(place) => write!(f, "ok {place}"),
-            Answer::NotOpened(fault) => {
-                let number = fault.number();
-                match fault {
-                    StoreFault::Frame => write!(f, "no {number}"),
-                    StoreFault::Rules { place, .. } => write!(f, "no {number} {place}"),
-                }
-            }
+            Answer::NotOpened(fault) => write!(f, "{}", Refusal(*fault)),
             Answer::NotFilled(fault) => {
                 let number = fault.number();
                 write!(f, "no {number}")
             }
-            Answer::NoGroup(number) => write!(f, "no {number}"),
+            Answer::NoGroup => {
+                let number = NoGroup { below: () }.number();
+                write!(f, "no {number}")
+            }
             Answer::Entries | Answer::Silent => f.write_str(""),
             Answer::Closed => f.write_str("closed"),
             Answer::Unknown => f.write_str("unknown"),

@@ -47,10 +47,7 @@ fn packed_step(store: Packed, question: &[u8]) -> (Case, Answer)
         None => (Case::Packed(store), Answer::Unknown),
         Some(place) => match Inside::open(store, place as usize) {
             Ok(inside) => (Case::InPacked(inside), Answer::Ok),
-            Err(refused) => {
-                let number = refused.number();
-                (Case::Packed(refused.below), Answer::NoGroup(number))
-            }
+            Err(refused) => (Case::Packed(refused.below), Answer::NoGroup),
         },
     }
 }
@@ -62,10 +59,7 @@ fn in_packed_step(store: Inside<Packed>, question: &[u8]) -> (Case, Answer)
         None => (Case::InPacked(store), Answer::Unknown),
         Some(place) => match store.inside(place as usize) {
             Ok(inside) => (Case::InPacked(inside), Answer::Ok),
-            Err(refused) => {
-                let number = refused.number();
-                (Case::InPacked(refused.below), Answer::NoGroup(number))
-            }
+            Err(refused) => (Case::InPacked(refused.below), Answer::NoGroup),
         },
     }
 }
@@ -77,10 +71,7 @@ fn table_step(store: Table, question: &[u8]) -> (Case, Answer)
         None => (Case::Table(store), Answer::Unknown),
         Some(place) => match Inside::open(store, place as usize) {
             Ok(inside) => (Case::InTable(inside), Answer::Ok),
-            Err(refused) => {
-                let number = refused.number();
-                (Case::Table(refused.below), Answer::NoGroup(number))
-            }
+            Err(refused) => (Case::Table(refused.below), Answer::NoGroup),
         },
     }
 }
@@ -92,10 +83,7 @@ fn in_table_step(store: Inside<Table>, question: &[u8]) -> (Case, Answer)
         None => (Case::InTable(store), Answer::Unknown),
         Some(place) => match store.inside(place as usize) {
             Ok(inside) => (Case::InTable(inside), Answer::Ok),
-            Err(refused) => {
-                let number = refused.number();
-                (Case::InTable(refused.below), Answer::NoGroup(number))
-            }
+            Err(refused) => (Case::InTable(refused.below), Answer::NoGroup),
         },
     }
 }

@@ -1,4 +1,2 @@
-pub mod Cuts
-pub mod Pairs
 pub mod Rows
 pub mod Words

@@ -5,7 +5,7 @@ use Rattle.table.specs.declared.slot.Slot.{Slot}
 use Rattle.table.specs.declared.slot.Slot.TheVariants.{End}
 use Rattle.notation.specs.Entries.{slot_of, slot_text}
 use Rattle.notation.specs.Numerals.{number_of}
-use Rattle.lines.specs.Digits.{hex_bytes}
+use Rattle.case_text.specs.Digits.{hex_bytes}
 
 -- The entries that words write, if each of them writes one.
 abbrev pub in_front : Option Slot → Option (List Slot) → Option (List Slot)

@@ -1,4 +1,4 @@
-pub mod Faults
-pub mod Questions
-pub mod Digits
+pub use Rattle.case_text.specs.Faults
+pub use Rattle.case_text.specs.Questions
+pub use Rattle.case_text.specs.Digits
 pub mod Beginnings

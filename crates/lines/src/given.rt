@@ -2,11 +2,10 @@
 ghost use Rattle.std.specs.Option.{option_map};
 ghost use Rattle.notation.specs.Parts.{parts_left};
 ghost use Rattle.lines.specs.Beginnings.{slots_given, filling_given, parts_said};
-ghost use Rattle.lines.specs.Faults.{Gives};
+ghost use Rattle.case_text.specs.Faults.{Gives};
 
-use crate::fault::LineFault;
-use crate::hex::from_hex;
 use crate::slots::entries;
+use case_text::{LineFault, from_hex};
 use notation::{first_part, number};
 use std::alloc::Global;
 use table::{Parts, Slot};

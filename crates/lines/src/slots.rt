@@ -3,9 +3,9 @@ ghost use Rattle.std.specs.Prelude.{◌≡◌, ◌++◌, vec_items, OnOk};
 ghost use Rattle.std.specs.Option.{option_map};
 ghost use Rattle.notation.specs.Parts.{parts_left};
 ghost use Rattle.lines.specs.Beginnings.{slots_of, entries_text, more_text};
-ghost use Rattle.lines.specs.Faults.{Gives};
+ghost use Rattle.case_text.specs.Faults.{Gives};
 
-use crate::fault::LineFault;
+use case_text::LineFault;
 use notation::{first_part, slot, write_slot};
 use std::alloc::{AllocError, Global};
 use table::Slot;

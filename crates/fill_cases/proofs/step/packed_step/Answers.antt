@@ -1,4 +1,4 @@
-use Rattle.std.proofs.Common.{ℕ, Ok, Err, Option, refl, ap, subst}
+use Rattle.std.proofs.Common.{ℕ, Ok, Err, Option, refl, subst}
 use Rattle.fill_cases.specs.Steps.{StepsPacked}
 use Rattle.fill_cases.specs.declared.answer.Answer.TheVariants.{Ok as SaidOk, NoGroup}
 use Rattle.fill_cases.specs.declared.case.Case.TheVariants.{InPacked, Packed}
@@ -10,4 +10,4 @@ returns-in-Ok c =
 
 pub returns-in-Err : goal.returns-in-Err
 returns-in-Err c =
-    subst (λ (o : Option ℕ). StepsPacked c.args.store o (Packed c.in-Err.refused.below) (NoGroup c.number-number.result)) c.in-Some.ensures (Err c.in-Err.refused, c.in-Err.ensures, (refl, ap NoGroup c.number-number.ensures))
+    subst (λ (o : Option ℕ). StepsPacked c.args.store o (Packed c.in-Err.refused.below) NoGroup) c.in-Some.ensures (Err c.in-Err.refused, c.in-Err.ensures, (refl, refl))

@@ -1,0 +1,5 @@
+pub mod Faults
+pub mod Questions
+pub mod Digits
+pub mod Refusals
+pub mod Texts

@@ -1,4 +1,0 @@
-pub mod Cuts
-pub mod Pairs
-pub mod Firsts
-pub mod Lines
