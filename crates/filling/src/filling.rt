@@ -2,12 +2,13 @@
 //! flattens a whole token stream at once.
 ghost use Rattle.std.specs.Prelude.{◌≡◌, ◌+◌, ◌<◌, false, if◌then◌else◌, min, length, slice_set, nat_le};
 ghost use Rattle.std.specs.Result.{result_err};
+ghost use Rattle.table.specs.Texts.{good_place};
 ghost use Rattle.filling.specs.Causes.{nothing_to_close, too_deep, refusal};
 ghost use Rattle.filling.specs.Filling.{state_after, closed, moved, entered, Fills};
 ghost use Rattle.filling.specs.Progress.{progress, start};
 ghost use Rattle.filling.specs.Runs.{WholeRuns};
 ghost use Rattle.filling.specs.Tables.{AnyTable};
-ghost use Rattle.filling.specs.declared.fault.FillFault.TheVariants.{TooShort as too_short};
+ghost use Rattle.filling.specs.declared.fault.FillFault.TheVariants.{Text as bad_text, TooShort as too_short};
 
 mod calls;
 
@@ -16,7 +17,7 @@ use crate::fault::FillFault;
 use arrayvec::ArrayVec;
 use rules::{DEEPEST, MOST, is_legal_mark};
 use std::marker::Model;
-use table::{Slot, Texts};
+use table::{Slot, TextPlace, Texts};
 
 /// How far a sheet has been written: the state, the number of entries written, and the places of the open groups, the
 /// innermost last. Table and texts are no part of it, nor one struct: the interface hands both to each call, and other ones may
@@ -81,31 +82,28 @@ impl Filling {
     fn check(&self, len: usize, texts: Texts<'_>, call: Call) -> Result<(), FillFault>
         ensures { result_err result ≡ refusal texts.entry.sheet.now texts.entry.template.now len self.now call }
     {
-        match (self.state, call) {
-            (State::Sealed, _) => return Err(FillFault::Sealed),
-            (State::Open, _) | (State::Waiting, Call::Name { .. }) => {}
-            (State::Waiting, _) => return Err(FillFault::NameWanted),
-        }
         let open = self.groups.len();
         // Owed after the call: an End for each open group and the last End; and after an apostrophe its name.
-        match call {
-            Call::Name { place, .. } | Call::Literal { place, .. } => {
-                if !texts.is_good(place) {
-                    return Err(FillFault::Text);
-                }
-                self.check_room(len, open + 1)
-            }
-            Call::Mark {
-                character,
-                spacing,
-                ..
-            } => {
+        match (self.state, call) {
+            (State::Sealed, _) => Err(FillFault::Sealed),
+            (State::Open, Call::Name { place, .. }) => self.check_text(len, texts, place),
+            (State::Waiting, Call::Name { place, .. }) => self.check_text(len, texts, place),
+            (State::Waiting, _) => Err(FillFault::NameWanted),
+            (State::Open, Call::Literal { place, .. }) => self.check_text(len, texts, place),
+            (
+                State::Open,
+                Call::Mark {
+                    character,
+                    spacing,
+                    ..
+                },
+            ) => {
                 if !is_legal_mark(character, spacing) {
                     return Err(FillFault::Mark);
                 }
                 self.check_room(len, open + 1 + usize::from(character == '\''))
             }
-            Call::Open { delimiter, .. } => {
+            (State::Open, Call::Open { delimiter, .. }) => {
                 if delimiter > 3 {
                     return Err(FillFault::Delimiter);
                 }
@@ -114,19 +112,29 @@ impl Filling {
                 }
                 self.check_room(len, open + 2)
             }
-            Call::Close { .. } => {
+            (State::Open, Call::Close { .. }) => {
                 if open == 0 {
                     return Err(FillFault::NoGroup);
                 }
                 self.check_room(len, open)
             }
-            Call::Seal => {
+            (State::Open, Call::Seal) => {
                 if open > 0 {
                     return Err(FillFault::GroupOpen);
                 }
                 self.check_room(len, 0)
             }
         }
+    }
+
+    /// Refuses a text place that is not good, and a table with no room for a name or literal.
+    fn check_text(&self, len: usize, texts: Texts<'_>, place: TextPlace) -> Result<(), FillFault>
+        ensures { result_err result ≡ (if good_place texts.entry.sheet.now texts.entry.template.now place then (if nat_le (self.now.written + 1 + (length self.now.groups + 1)) (min 65535 len) then None else Some too_short) else Some bad_text) }
+    {
+        if !texts.is_good(place) {
+            return Err(FillFault::Text);
+        }
+        self.check_room(len, self.groups.len() + 1)
     }
 
     /// Refuses a table with no room for one more entry and those owed after it. Only its first 65,535 entries count.
