@@ -1,6 +1,6 @@
 //! The packed sheet of the one name `a`, and every sheet that differs from it in one byte.
 use packed::Packed;
-use sheet::{EntryKind, Rule, Store, StoreFault};
+use sheet::{Rule, Store, StoreFault, Tree};
 use std::alloc::{AllocError, Global};
 use std::process::Abort;
 use std::test::Fail;
@@ -8,6 +8,7 @@ use std::test::Fail;
 const NAME_A: [u8; 15] = [1, 2, 0, 1, 0, 4, 0, 0, 7, 0, 0, 0, 0, 1, 97];
 
 /// What opening answers: a sheet of one name or literal, or a refusal.
+// Not a `Result` of `StoreFault`: with that each row of the table below takes five lines and more.
 #[derive(Clone, Copy, PartialEq, Eq, Debug)]
 enum Answer {
     Name(u8),
@@ -57,13 +58,12 @@ fn opened(bytes: Vec<u8>) -> Answer {
             StoreFault::Rules { place, rule } => Rules(place, rule),
         },
         Ok(sheet) => {
-            let text = sheet.text(0);
-            if sheet.count() != 2 || text.len() != 1 {
+            if sheet.count() != 2 {
                 return Other;
             }
-            match sheet.kind(0) {
-                EntryKind::Name => Name(text[0]),
-                EntryKind::Literal => Literal(text[0]),
+            match sheet.token(0) {
+                Some(Tree::Name(&[byte])) => Name(byte),
+                Some(Tree::Literal(&[byte])) => Literal(byte),
                 _ => Other,
             }
         }
@@ -78,7 +78,7 @@ fn it_is_the_name_a(rt: HostRuntime) -> Result<(), Fail> {
 
 #[test]
 fn every_proper_beginning_is_refused(rt: HostRuntime) -> Result<(), Fail> {
-    for n in 0..15usize {
+    for n in 0..NAME_A.len() {
         let mut bytes = NAME_A.to_vec(rt.alloc())?;
         bytes.truncate(n);
         assert_eq!(rt; opened(bytes), Frame);
@@ -89,8 +89,8 @@ fn every_proper_beginning_is_refused(rt: HostRuntime) -> Result<(), Fail> {
 /// The sheet with one byte changed.
 fn changed(heap: Global, at: usize, value: u8) -> Result<Vec<u8>, AllocError> {
     let mut bytes = NAME_A.to_vec(heap)?;
-    if at < bytes.len() {
-        bytes[at] = value;
+    if let Some(byte) = bytes.get_mut(at) {
+        *byte = value;
     }
     Ok(bytes)
 }
@@ -105,8 +105,7 @@ fn row(
     want: Answer,
 ) -> Result<u32, Fail> {
     let mut tried = 0u32;
-    for value in u16::from(from)..u16::from(to) + 1 {
-        let value = (value % 256) as u8;
+    for value in from..=to {
         let want = match want {
             Name(_) => Name(value),
             other => other,
