@@ -93,31 +93,11 @@ const FOUR: Call = Call::Open {
 const CLOSE: Call = Call::Close { closing: 9 };
 
 /// What a call answers: the place written, or the number of the refusal.
-#[derive(Clone, Copy)]
-enum Answer {
-    At(usize),
-    By(u8),
-}
+type Answer = Result<usize, u8>;
 
-use Answer::*;
-
-fn check_answer(
-    rt: &impl Abort,
-    answer: Result<usize, FillFault>,
-    want: Answer,
-) -> Result<(), Fail> {
-    match (answer, want) {
-        (Ok(place), At(wanted)) => {
-            assert_eq!(rt; place, wanted);
-            Ok(())
-        },
-        (Err(fault), By(number)) => {
-            assert_eq!(rt; fault.number(), number);
-            Ok(())
-        },
-        (Ok(place), By(_)) => Err(Fail::new(format_args!("accepted at {place}"))),
-        (Err(fault), At(_)) => Err(Fail::new(format_args!("refused by {}", fault.number()))),
-    }
+/// The answer, with its refusal by number.
+fn number_refusal(answer: Result<usize, FillFault>) -> Answer {
+    answer.map_err(|fault| fault.number())
 }
 
 /// Puts a call by its name.
@@ -155,14 +135,10 @@ struct Desk {
 impl Desk {
     /// Nothing is written yet, and the table has so many entries.
     fn new(heap: Global, length: usize) -> Result<Desk, AllocError> {
-        let mut entries = Vec::new(heap);
-        for _ in 0..length {
-            entries.push(OLD)?;
-        }
         Ok(Desk {
             filling: Filling::new(),
             parts: Parts {
-                entries,
+                entries: vec![in heap; OLD; length]?,
                 sheet: SHEET.to_vec(heap)?,
                 template: TEMPLATE.to_vec(heap)?,
             },
@@ -192,13 +168,13 @@ impl Desk {
     ) -> Result<(), Fail> {
         let written = self.filling.written();
         let entries = self.parts.entries.as_slice().to_vec(heap)?;
-        check_answer(rt, self.put(call), want)?;
+        assert_eq!(rt; number_refusal(self.put(call)), want);
         match want {
-            At(place) => {
+            Ok(place) => {
                 assert!(rt; written == place && self.filling.written() == place.saturating_add(1));
                 Ok(())
             },
-            By(_) => {
+            Err(_) => {
                 assert!(rt;
                     written == self.filling.written()
                         && self.parts.entries.as_slice() == entries.as_slice()
@@ -210,8 +186,7 @@ impl Desk {
 
     /// Puts calls one after another.
     fn run(&mut self, rt: &impl Abort, heap: Global, calls: &[(Call, Answer)]) -> Result<(), Fail> {
-        for k in 0..calls.len() {
-            let (call, want) = calls[k];
+        for &(call, want) in calls {
             self.answers(rt, heap, call, want)?;
         }
         Ok(())
@@ -226,20 +201,15 @@ fn told(
     calls: &[(Call, Answer)],
 ) -> Result<Desk, Fail> {
     let mut desk = Desk::new(heap, length)?;
-    match desk.run(rt, heap, calls) {
-        Ok(()) => Ok(desk),
-        Err(fail) => Err(fail),
-    }
+    desk.run(rt, heap, calls)?;
+    Ok(desk)
 }
 
 /// What was written, as a sheet.
 fn opened(desk: Desk) -> Result<Table, Fail> {
     let Desk { filling, mut parts } = desk;
     parts.entries.truncate(filling.written());
-    match Table::open(parts) {
-        Ok(sheet) => Ok(sheet),
-        Err(_) => Err(Fail::new("what was written is no sheet")),
-    }
+    Table::open(parts).map_err(|_| Fail::new("what was written is no sheet"))
 }
 
 /// What a sheet answers at a place: a text by its first byte and its length, a group's stamps in the order whole, opening, closing.
@@ -250,17 +220,16 @@ enum Seen {
     Mark(char, Spacing, u32),
     Literal(u8, usize, u32),
     End(usize),
-    Nothing,
 }
 
 fn first(text: &[u8]) -> u8 {
-    if text.is_empty() { 0 } else { text[0] }
+    text.first().copied().unwrap_or(0)
 }
 
-fn shown_at(sheet: &Table, at: usize) -> Seen {
+fn shown_at(sheet: &Table, at: usize) -> Option<Seen> {
     let text = sheet.text(at);
     let stamps = sheet.stamps(at);
-    match sheet.kind(at) {
+    Some(match sheet.kind(at) {
         EntryKind::Group => Seen::Group(
             sheet.delimiter(at),
             sheet.distance(at),
@@ -272,17 +241,17 @@ fn shown_at(sheet: &Table, at: usize) -> Seen {
         EntryKind::Mark => Seen::Mark(sheet.character(at), sheet.spacing(at), stamps.whole),
         EntryKind::Literal => Seen::Literal(first(text), text.len(), stamps.whole),
         EntryKind::End => Seen::End(sheet.distance(at)),
-        EntryKind::Nothing => Seen::Nothing,
-    }
+        EntryKind::Nothing => return None,
+    })
 }
 
 /// A sheet has these entries and no more.
 fn check_sheet(rt: &impl Abort, sheet: &Table, entries: &[Seen]) -> Result<(), Fail> {
     assert_eq!(rt; sheet.count(), entries.len());
-    for at in 0..entries.len() {
-        assert_eq!(rt; shown_at(sheet, at), entries[at]);
+    for (at, &seen) in entries.iter().enumerate() {
+        assert_eq!(rt; shown_at(sheet, at), Some(seen));
     }
-    assert_eq!(rt; shown_at(sheet, entries.len()), Seen::Nothing);
+    assert_eq!(rt; shown_at(sheet, entries.len()), None);
     Ok(())
 }
 
@@ -293,12 +262,12 @@ fn a_table_of_three_has_room_for_one_empty_group(rt: HostRuntime) -> Result<(), 
         rt.alloc(),
         3,
         &[
-            (GROUP, At(0)),
-            (NAME_A, By(9)),
-            (GROUP, By(9)),
-            (CLOSE, At(1)),
-            (NAME_A, By(9)),
-            (Call::Seal, At(2)),
+            (GROUP, Ok(0)),
+            (NAME_A, Err(9)),
+            (GROUP, Err(9)),
+            (CLOSE, Ok(1)),
+            (NAME_A, Err(9)),
+            (Call::Seal, Ok(2)),
         ],
     )?;
     check_sheet(
@@ -316,14 +285,18 @@ fn a_table_of_three_has_room_for_one_empty_group(rt: HostRuntime) -> Result<(), 
 fn sixty(rt: &impl Abort, heap: Global) -> Result<Desk, Fail> {
     let mut desk = Desk::new(heap, 121)?;
     for place in 0..60usize {
-        desk.answers(rt, heap, GROUP, At(place))?;
+        desk.answers(rt, heap, GROUP, Ok(place))?;
     }
     // the delimiter is looked at before the depth
-    desk.run(rt, heap, &[(GROUP, By(8)), (FOUR, By(5)), (NAME_A, By(9))])?;
+    desk.run(
+        rt,
+        heap,
+        &[(GROUP, Err(8)), (FOUR, Err(5)), (NAME_A, Err(9))],
+    )?;
     for place in 60..120usize {
-        desk.answers(rt, heap, CLOSE, At(place))?;
+        desk.answers(rt, heap, CLOSE, Ok(place))?;
     }
-    desk.answers(rt, heap, Call::Seal, At(120))?;
+    desk.answers(rt, heap, Call::Seal, Ok(120))?;
     Ok(desk)
 }
 
@@ -334,18 +307,21 @@ fn sixty_groups_are_opened_and_one_more_is_not(rt: HostRuntime) -> Result<(), Fa
     for place in 0..60usize {
         assert_eq!(rt;
             shown_at(&sheet, place),
-            Seen::Group(Delimiter::Parenthesis, 119 - 2 * place, 7, 8, 9)
+            Some(Seen::Group(Delimiter::Parenthesis, 119 - 2 * place, 7, 8, 9))
         );
-        assert_eq!(rt; shown_at(&sheet, 119 - place), Seen::End(119 - 2 * place));
+        assert_eq!(rt;
+            shown_at(&sheet, 119 - place),
+            Some(Seen::End(119 - 2 * place))
+        );
     }
-    assert_eq!(rt; shown_at(&sheet, 120), Seen::End(0));
+    assert_eq!(rt; shown_at(&sheet, 120), Some(Seen::End(0)));
     Ok(())
 }
 
 #[test]
 fn the_empty_sheet_is_one_entry(rt: HostRuntime) -> Result<(), Fail> {
-    told(&rt, rt.alloc(), 0, &[(Call::Seal, By(9))])?;
-    let desk = told(&rt, rt.alloc(), 1, &[(NAME_A, By(9)), (Call::Seal, At(0))])?;
+    told(&rt, rt.alloc(), 0, &[(Call::Seal, Err(9))])?;
+    let desk = told(&rt, rt.alloc(), 1, &[(NAME_A, Err(9)), (Call::Seal, Ok(0))])?;
     check_sheet(&rt, &opened(desk)?, &[Seen::End(0)])
 }
 
@@ -360,7 +336,7 @@ fn an_empty_invisible_group_is_three_entries(rt: HostRuntime) -> Result<(), Fail
         &rt,
         rt.alloc(),
         3,
-        &[(invisible, At(0)), (CLOSE, At(1)), (Call::Seal, At(2))],
+        &[(invisible, Ok(0)), (CLOSE, Ok(1)), (Call::Seal, Ok(2))],
     )?;
     check_sheet(
         &rt,
@@ -376,24 +352,24 @@ fn an_empty_invisible_group_is_three_entries(rt: HostRuntime) -> Result<(), Fail
 /// An apostrophe keeps room for its name too, and takes nothing else before it.
 #[test]
 fn an_apostrophe_waits_for_its_name(rt: HostRuntime) -> Result<(), Fail> {
-    told(&rt, rt.alloc(), 2, &[(APOSTROPHE, By(9))])?;
+    told(&rt, rt.alloc(), 2, &[(APOSTROPHE, Err(9))])?;
     let desk = told(
         &rt,
         rt.alloc(),
         5,
         &[
-            (GROUP, At(0)),
-            (APOSTROPHE, At(1)),
-            (APOSTROPHE, By(2)),
-            (LETTER, By(2)),
-            (LITERAL_A, By(2)),
-            (GROUP, By(2)),
-            (CLOSE, By(2)),
-            (Call::Seal, By(2)),
-            (NAME_PAST, By(4)),
-            (NAME_A, At(2)),
-            (CLOSE, At(3)),
-            (Call::Seal, At(4)),
+            (GROUP, Ok(0)),
+            (APOSTROPHE, Ok(1)),
+            (APOSTROPHE, Err(2)),
+            (LETTER, Err(2)),
+            (LITERAL_A, Err(2)),
+            (GROUP, Err(2)),
+            (CLOSE, Err(2)),
+            (Call::Seal, Err(2)),
+            (NAME_PAST, Err(4)),
+            (NAME_A, Ok(2)),
+            (CLOSE, Ok(3)),
+            (Call::Seal, Ok(4)),
         ],
     )?;
     check_sheet(
@@ -437,30 +413,30 @@ fn each_refusal_leaves_filling_and_table_as_they_were(rt: HostRuntime) -> Result
         rt.alloc(),
         9,
         &[
-            (LETTER, By(3)),
-            (mark('\\', 1), By(3)),
-            (mark('+', 2), By(3)),
-            (mark('\'', 0), By(3)),
-            (NAME_PAST, By(4)),
-            (LITERAL_PAST, By(4)),
-            (literal(1, 3, 1), By(4)),
-            (literal(0, 1, 0), By(4)),
-            (literal(2, 0, 1), By(4)),
-            (literal(u32::MAX, u32::MAX, u32::MAX), By(4)),
-            (FOUR, By(5)),
-            (CLOSE, By(6)),
-            (GROUP, At(0)),
-            (Call::Seal, By(7)),
-            (CLOSE, At(1)),
-            (CLOSE, By(6)),
-            (Call::Seal, At(2)),
+            (LETTER, Err(3)),
+            (mark('\\', 1), Err(3)),
+            (mark('+', 2), Err(3)),
+            (mark('\'', 0), Err(3)),
+            (NAME_PAST, Err(4)),
+            (LITERAL_PAST, Err(4)),
+            (literal(1, 3, 1), Err(4)),
+            (literal(0, 1, 0), Err(4)),
+            (literal(2, 0, 1), Err(4)),
+            (literal(u32::MAX, u32::MAX, u32::MAX), Err(4)),
+            (FOUR, Err(5)),
+            (CLOSE, Err(6)),
+            (GROUP, Ok(0)),
+            (Call::Seal, Err(7)),
+            (CLOSE, Ok(1)),
+            (CLOSE, Err(6)),
+            (Call::Seal, Ok(2)),
             // a sealed filling takes no call, whatever else is wrong with it
-            (NAME_A, By(1)),
-            (LETTER, By(1)),
-            (LITERAL_PAST, By(1)),
-            (FOUR, By(1)),
-            (CLOSE, By(1)),
-            (Call::Seal, By(1)),
+            (NAME_A, Err(1)),
+            (LETTER, Err(1)),
+            (LITERAL_PAST, Err(1)),
+            (FOUR, Err(1)),
+            (CLOSE, Err(1)),
+            (Call::Seal, Err(1)),
         ],
     )?;
     Ok(())
@@ -474,21 +450,21 @@ fn a_short_table_is_the_last_cause(rt: HostRuntime) -> Result<(), Fail> {
         rt.alloc(),
         0,
         &[
-            (LETTER, By(3)),
-            (NAME_PAST, By(4)),
-            (LITERAL_PAST, By(4)),
-            (FOUR, By(5)),
-            (CLOSE, By(6)),
-            (GROUP, By(9)),
+            (LETTER, Err(3)),
+            (NAME_PAST, Err(4)),
+            (LITERAL_PAST, Err(4)),
+            (FOUR, Err(5)),
+            (CLOSE, Err(6)),
+            (GROUP, Err(9)),
         ],
     )?;
     // the group stays open, and the table is shorter afterwards
-    let mut desk = told(&rt, rt.alloc(), 3, &[(GROUP, At(0))])?;
+    let mut desk = told(&rt, rt.alloc(), 3, &[(GROUP, Ok(0))])?;
     desk.parts.entries.truncate(1);
     desk.run(
         &rt,
         rt.alloc(),
-        &[(Call::Seal, By(7)), (CLOSE, By(9)), (FOUR, By(5))],
+        &[(Call::Seal, Err(7)), (CLOSE, Err(9)), (FOUR, Err(5))],
     )
 }
 
@@ -505,31 +481,31 @@ fn all_kinds(rt: &impl Abort, heap: Global) -> Result<Desk, Fail> {
                     whole: 10,
                     opening: 11,
                 },
-                At(0),
+                Ok(0),
             ),
             (
                 Call::Name {
                     place: A,
                     stamp: 12,
                 },
-                At(1),
+                Ok(1),
             ),
-            (APOSTROPHE, At(2)),
+            (APOSTROPHE, Ok(2)),
             (
                 Call::Name {
                     place: XY,
                     stamp: 14,
                 },
-                At(3),
+                Ok(3),
             ),
-            (Call::Close { closing: 15 }, At(4)),
+            (Call::Close { closing: 15 }, Ok(4)),
             (
                 Call::Mark {
                     character: '+',
                     spacing: 1,
                     stamp: 16,
                 },
-                At(5),
+                Ok(5),
             ),
             (
                 Call::Mark {
@@ -537,14 +513,14 @@ fn all_kinds(rt: &impl Abort, heap: Global) -> Result<Desk, Fail> {
                     spacing: 0,
                     stamp: 17,
                 },
-                At(6),
+                Ok(6),
             ),
             (
                 Call::Literal {
                     place: SEVEN,
                     stamp: 18,
                 },
-                At(7),
+                Ok(7),
             ),
             (
                 Call::Open {
@@ -552,7 +528,7 @@ fn all_kinds(rt: &impl Abort, heap: Global) -> Result<Desk, Fail> {
                     whole: 19,
                     opening: 20,
                 },
-                At(8),
+                Ok(8),
             ),
             (
                 Call::Open {
@@ -560,18 +536,18 @@ fn all_kinds(rt: &impl Abort, heap: Global) -> Result<Desk, Fail> {
                     whole: 21,
                     opening: 22,
                 },
-                At(9),
+                Ok(9),
             ),
-            (Call::Close { closing: 23 }, At(10)),
-            (Call::Close { closing: 24 }, At(11)),
+            (Call::Close { closing: 23 }, Ok(10)),
+            (Call::Close { closing: 24 }, Ok(11)),
             (
                 Call::Name {
                     place: BC,
                     stamp: 25,
                 },
-                At(12),
+                Ok(12),
             ),
-            (Call::Seal, At(13)),
+            (Call::Seal, Ok(13)),
         ],
     )
 }
@@ -675,7 +651,7 @@ fn a_broken_table_is_handed_back(rt: HostRuntime) -> Result<(), Fail> {
 /// `close` is handed another table than `open`, and no Group stands there; and then the first table again.
 #[test]
 fn another_table_is_harmless(rt: HostRuntime) -> Result<(), Fail> {
-    let mut desk = told(&rt, rt.alloc(), 3, &[(GROUP, At(0))])?;
+    let mut desk = told(&rt, rt.alloc(), 3, &[(GROUP, Ok(0))])?;
     let texts = Texts {
         sheet: &SHEET,
         template: &TEMPLATE,
@@ -685,9 +661,12 @@ fn another_table_is_harmless(rt: HostRuntime) -> Result<(), Fail> {
         stamp: 4,
     };
     let mut other = [name; 3];
-    check_answer(&rt, desk.filling.fill(&mut other, texts, CLOSE), At(1))?;
+    assert_eq!(rt;
+        number_refusal(desk.filling.fill(&mut other, texts, CLOSE)),
+        Ok(1)
+    );
     assert!(rt; other.as_slice() == [name, Slot::End { distance: 1 }, name].as_slice());
-    desk.run(&rt, rt.alloc(), &[(Call::Seal, At(2))])?;
+    desk.run(&rt, rt.alloc(), &[(Call::Seal, Ok(2))])?;
     assert!(rt;
         desk.parts.entries.as_slice() == [group(0), OLD, Slot::End { distance: 0 }].as_slice()
     );
@@ -697,15 +676,18 @@ fn another_table_is_harmless(rt: HostRuntime) -> Result<(), Fail> {
 /// A shorter table is refused, and the table from before is taken again.
 #[test]
 fn a_shorter_table_later_is_harmless(rt: HostRuntime) -> Result<(), Fail> {
-    let mut desk = told(&rt, rt.alloc(), 4, &[(GROUP, At(0)), (NAME_A, At(1))])?;
+    let mut desk = told(&rt, rt.alloc(), 4, &[(GROUP, Ok(0)), (NAME_A, Ok(1))])?;
     let texts = Texts {
         sheet: &SHEET,
         template: &TEMPLATE,
     };
     let mut short = [OLD; 3];
-    check_answer(&rt, desk.filling.fill(&mut short, texts, CLOSE), By(9))?;
+    assert_eq!(rt;
+        number_refusal(desk.filling.fill(&mut short, texts, CLOSE)),
+        Err(9)
+    );
     assert!(rt; short.as_slice() == [OLD; 3].as_slice());
-    desk.run(&rt, rt.alloc(), &[(CLOSE, At(2)), (Call::Seal, At(3))])?;
+    desk.run(&rt, rt.alloc(), &[(CLOSE, Ok(2)), (Call::Seal, Ok(3))])?;
     check_sheet(
         &rt,
         &opened(desk)?,
@@ -723,12 +705,12 @@ fn a_shorter_table_later_is_harmless(rt: HostRuntime) -> Result<(), Fail> {
 fn a_long_table_is_filled_up_to_its_limit(rt: HostRuntime) -> Result<(), Fail> {
     let mut desk = Desk::new(rt.alloc(), 65540)?;
     for place in 0..65534usize {
-        check_answer(&rt, desk.put(NAME_A), At(place))?;
+        assert_eq!(rt; number_refusal(desk.put(NAME_A)), Ok(place));
     }
     desk.run(
         &rt,
         rt.alloc(),
-        &[(NAME_A, By(9)), (GROUP, By(9)), (Call::Seal, At(65534))],
+        &[(NAME_A, Err(9)), (GROUP, Err(9)), (Call::Seal, Ok(65534))],
     )?;
     assert_eq!(rt; opened(desk)?.count(), 65535);
     Ok(())
@@ -737,10 +719,7 @@ fn a_long_table_is_filled_up_to_its_limit(rt: HostRuntime) -> Result<(), Fail> {
 /// Of a longer text 65,535 bytes count, and of these at most 255 are one text.
 #[test]
 fn a_long_text_is_read_up_to_its_limit(rt: HostRuntime) -> Result<(), Fail> {
-    let mut long = Vec::new(rt.alloc());
-    for _ in 0..65540usize {
-        long.push(97u8)?;
-    }
+    let long = vec![in rt.alloc(); 97u8; 65540]?;
     let texts = Texts {
         sheet: &SHEET,
         template: long.as_slice(),

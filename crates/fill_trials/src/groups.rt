@@ -13,27 +13,17 @@ const SHEET: [u8; 44] = [
 ];
 
 fn opened(heap: Global) -> Result<Packed, Fail> {
-    match Packed::open(SHEET.to_vec(heap)?) {
-        Ok(sheet) => Ok(sheet),
-        Err(_) => Err(Fail::new("the sheet is refused")),
-    }
+    Packed::open(SHEET.to_vec(heap)?).map_err(|_| Fail::new("the sheet is refused"))
 }
 
 /// What stands at a place as one letter: an End is `)`, and a blank is nothing.
 fn letter<S: Store>(store: &S, at: usize) -> char {
     match store.token(at) {
-        Some(Tree::Name(text)) => {
-            if text.len() == 1 {
-                char::from(text[0])
-            } else {
-                '?'
-            }
-        }
-        Some(Tree::Literal(_)) => '?',
+        Some(Tree::Name(&[letter])) => char::from(letter),
         Some(Tree::Mark(character, _)) => character,
         Some(Tree::Group(Delimiter::Parenthesis)) => '(',
         Some(Tree::Group(Delimiter::Brace)) => '{',
-        Some(Tree::Group(_)) => '?',
+        Some(_) => '?',
         None => match store.kind(at) {
             EntryKind::End => ')',
             EntryKind::Nothing => ' ',
@@ -45,8 +35,8 @@ fn letter<S: Store>(store: &S, at: usize) -> char {
 /// A store has these entries and no more.
 fn check_reads<S: Store>(rt: &impl Abort, store: &S, letters: &[char]) -> Result<(), Fail> {
     assert_eq!(rt; store.count(), letters.len());
-    for at in 0..letters.len() {
-        assert_eq!(rt; letter(store, at), letters[at]);
+    for (at, &wanted) in letters.iter().enumerate() {
+        assert_eq!(rt; letter(store, at), wanted);
     }
     assert_eq!(rt; letter(store, letters.len()), ' ');
     Ok(())
@@ -63,70 +53,57 @@ fn start(place: u16) -> Stamp {
 fn the_contents_count_from_nought_and_keep_their_stamps(rt: HostRuntime) -> Result<(), Fail> {
     let sheet = opened(rt.alloc())?;
     check_reads(&rt, &sheet, &['(', 'a', '{', 'b', '+', ')', ')', 'c', ')'])?;
-    match Inside::open(&sheet, 0) {
-        Err(_) => Err(Fail::new("the group is not found")),
-        Ok(outer) => {
-            check_reads(&rt, &outer, &['a', '{', 'b', '+', ')', ')'])?;
-            assert_eq!(rt; outer.distance(1), 3);
-            assert_eq!(rt; outer.distance(4), 3);
-            assert_eq!(rt; outer.distance(5), 0);
-            assert_eq!(rt; outer.stamps(0).whole, start(1));
-            assert_eq!(rt; outer.stamps(1).opening, start(2));
-            assert_eq!(rt;
-                outer.stamps(1).closing,
-                Stamp {
-                    place: 2,
-                    side: Side::Close,
-                }
-            );
-            assert_eq!(rt; outer.stamps(5).closing, outer.call_site());
-            assert_eq!(rt; outer.call_site(), sheet.call_site());
-            Ok(())
+    let outer = Inside::open(&sheet, 0).map_err(|_| Fail::new("the group is not found"))?;
+    check_reads(&rt, &outer, &['a', '{', 'b', '+', ')', ')'])?;
+    assert_eq!(rt; outer.distance(1), 3);
+    assert_eq!(rt; outer.distance(4), 3);
+    assert_eq!(rt; outer.distance(5), 0);
+    assert_eq!(rt; outer.stamps(0).whole, start(1));
+    assert_eq!(rt; outer.stamps(1).opening, start(2));
+    assert_eq!(rt;
+        outer.stamps(1).closing,
+        Stamp {
+            place: 2,
+            side: Side::Close,
         }
-    }
+    );
+    assert_eq!(rt; outer.stamps(5).closing, outer.call_site());
+    assert_eq!(rt; outer.call_site(), sheet.call_site());
+    Ok(())
 }
 
 /// The contents of the group in parentheses.
 fn outer(heap: Global) -> Result<Inside<Packed>, Fail> {
-    match Inside::open(opened(heap)?, 0) {
-        Ok(outer) => Ok(outer),
-        Err(_) => Err(Fail::new("the outer group is not found")),
-    }
+    Inside::open(opened(heap)?, 0).map_err(|_| Fail::new("the outer group is not found"))
 }
 
 /// In by a layer over a layer, and in by one layer: the same contents, and the store below comes out again.
 #[test]
 fn two_ways_lead_further_in(rt: HostRuntime) -> Result<(), Fail> {
-    match (
-        Inside::open(outer(rt.alloc())?, 1),
-        outer(rt.alloc())?.inside(1),
-    ) {
-        (Ok(layered), Ok(straight)) => {
-            check_reads(&rt, &layered, &['b', '+', ')'])?;
-            check_reads(&rt, &straight, &['b', '+', ')'])?;
-            assert!(rt; same_sheet(&layered, &straight));
-            for at in 0..4usize {
-                assert_eq!(rt; layered.stamps(at).whole, straight.stamps(at).whole);
-            }
-            assert_eq!(rt; straight.stamps(1).whole, start(4));
-            assert_eq!(rt; layered.into_below().into_below().count(), 9);
-            assert!(rt; straight.into_below().into_bytes().as_slice() == SHEET.as_slice());
-            Ok(())
-        }
-        _ => Err(Fail::new("the inner group is not found")),
+    let layered = Inside::open(outer(rt.alloc())?, 1).map_err(|_| Fail::new(
+        "the inner group is not found",
+    ))?;
+    let straight = outer(rt.alloc())?
+        .inside(1)
+        .map_err(|_| Fail::new("the inner group is not found"))?;
+    check_reads(&rt, &layered, &['b', '+', ')'])?;
+    check_reads(&rt, &straight, &['b', '+', ')'])?;
+    assert!(rt; same_sheet(&layered, &straight));
+    for at in 0..4usize {
+        assert_eq!(rt; layered.stamps(at).whole, straight.stamps(at).whole);
     }
+    assert_eq!(rt; straight.stamps(1).whole, start(4));
+    assert_eq!(rt; layered.into_below().into_below().count(), 9);
+    assert!(rt; straight.into_below().into_bytes().as_slice() == SHEET.as_slice());
+    Ok(())
 }
 
 #[test]
 fn a_borrowed_store_is_entered_as_deep(rt: HostRuntime) -> Result<(), Fail> {
     let sheet = opened(rt.alloc())?;
-    match Inside::open(&sheet, 0) {
-        Err(_) => Err(Fail::new("the outer group is not found")),
-        Ok(outer) => match Inside::open(&outer, 1) {
-            Err(_) => Err(Fail::new("the inner group is not found")),
-            Ok(inner) => check_reads(&rt, &inner, &['b', '+', ')']),
-        },
-    }
+    let outer = Inside::open(&sheet, 0).map_err(|_| Fail::new("the outer group is not found"))?;
+    let inner = Inside::open(&outer, 1).map_err(|_| Fail::new("the inner group is not found"))?;
+    check_reads(&rt, &inner, &['b', '+', ')'])
 }
 
 #[test]
@@ -143,15 +120,13 @@ fn elsewhere_stands_no_group_and_the_store_is_handed_back(rt: HostRuntime) -> Re
     // and in the contents
     for place in [0, 2, 4, 5, 6, usize::MAX] {
         let sheet = opened(rt.alloc())?;
-        match Inside::open(&sheet, 0) {
-            Err(_) => Err(Fail::new("the group is not found"))?,
-            Ok(outer) => match outer.inside(place) {
-                Ok(_) => Err(Fail::new("a group is found where none stands"))?,
-                Err(refused) => {
-                    assert_eq!(rt; refused.number(), 12);
-                    check_reads(&rt, &refused.below, &['a', '{', 'b', '+', ')', ')'])?;
-                }
-            },
+        let outer = Inside::open(&sheet, 0).map_err(|_| Fail::new("the group is not found"))?;
+        match outer.inside(place) {
+            Ok(_) => Err(Fail::new("a group is found where none stands"))?,
+            Err(refused) => {
+                assert_eq!(rt; refused.number(), 12);
+                check_reads(&rt, &refused.below, &['a', '{', 'b', '+', ')', ')'])?;
+            }
         }
     }
     Ok(())

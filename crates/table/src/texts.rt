@@ -8,6 +8,7 @@ use crate::slot::TextPlace;
 pub const LONGEST: usize = 65535;
 
 /// The sheet text and the template text.
+// Clauses name the two lists and not a `Texts`: the laws of filling go over lists that no `Texts` holds.
 #[derive(Clone, Copy)]
 pub struct Texts<'a> {
     pub sheet: &'a [u8],
@@ -22,7 +23,8 @@ fn counted(text: &[u8]) -> &[u8]
 }
 
 impl<'a> Texts<'a> {
-    /// The text of a number, as somebody wrote it.
+    /// The text of a number.
+    // Not an enum: the number is as somebody wrote it, and a place in any text above 1 has no bytes.
     fn numbered(self, number: u32) -> &'a [u8]
         ensures { result.now ≡ text_numbered self.entry.sheet.now self.entry.template.now number }
     {
