@@ -4,10 +4,9 @@ use Rattle.std.proofs.lemmas.Bool.{cases_lt}
 use Rattle.sheet.specs.Entries.{Entry, Nothing, entries, at}
 use Rattle.sheet.specs.Limits.{LegalFields}
 use Rattle.sheet.proofs.Places.{at_past}
-use Rattle.rules.specs.Rules.{verdict, lawful}
 use Rattle.rules.specs.Verdicts.{OneLawfulSheet}
-use Rattle.rules.proofs.Sheets.{one_lawful_sheet, lawful_verdict, legal_there, legal_spacing}
-use Rattle.packed.specs.Format.{entry_count, listed, here}
+use Rattle.rules.proofs.Sheets
+use Rattle.packed.specs.Format.{listed}
 use Rattle.packed.specs.Opening.{bytes_of, sheet_of}
 use Rattle.packed.specs.Slots.{found, spaced}
 use Rattle.packed.specs.declared.packed.Packed.{Packed}
@@ -16,21 +15,12 @@ use Rattle.packed.specs.declared.slot.Slot.{Slot}
 use Rattle.packed.specs.declared.slot.Slot.TheVariants.{Group, Name, Mark as SMark, Literal, End}
 use Rattle.packed.proofs.Listed.{length_listed}
 
-its_verdict : (p : Packed) → verdict (listed (bytes_of p)) ≡ lawful
-its_verdict p = lawful_verdict (listed (bytes_of p)) p.lawful
-
-pub its_sheet : (p : Packed) → OneLawfulSheet (listed (bytes_of p))
-its_sheet p = one_lawful_sheet (listed (bytes_of p)) (its_verdict p)
-
-pub count_is : (p : Packed) → entry_count (bytes_of p) ≡ length (entries (sheet_of p))
-count_is p = sym (ap length (its_sheet p).flat ∙ length_listed (bytes_of p))
-
-pub slot_there : (p : Packed) (k : ℕ) (s : Option Slot) → found (bytes_of p) k s ≡ at (listed (bytes_of p)) k → found (bytes_of p) k s ≡ at (entries (sheet_of p)) k
-slot_there p k s h = h ∙ ap (λ es. at es k) (sym (its_sheet p).flat)
+its_sheet : (p : Packed) → OneLawfulSheet (listed (bytes_of p))
+its_sheet p = Sheets.its_sheet (listed (bytes_of p)) p.framed.lawful
 
 pub slot_spaced : (p : Packed) (k : ℕ) (s : Option Slot) → found (bytes_of p) k s ≡ at (listed (bytes_of p)) k → spaced s ≡ true
 slot_spaced p k None h = refl
-slot_spaced p k (Some (SMark c s)) h = legal_spacing c s (subst LegalFields (sym h) (legal_there (listed (bytes_of p)) k (its_verdict p)))
+slot_spaced p k (Some (SMark c s)) h = Sheets.legal_spacing c s (subst LegalFields (sym h) (Sheets.legal_there (listed (bytes_of p)) k (Sheets.lawful_verdict (listed (bytes_of p)) p.framed.lawful)))
 slot_spaced p k (Some (Group d x)) h = refl
 slot_spaced p k (Some (Name n)) h = refl
 slot_spaced p k (Some (Literal n)) h = refl

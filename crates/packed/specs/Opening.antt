@@ -16,7 +16,7 @@ use Rattle.packed.specs.declared.stamp.Stamp.{Stamp}
 
 -- The bytes that a packed store holds, and the sheet that they mean.
 abbrev pub bytes_of : Packed → List ℕ
-bytes_of p = vec_items p.framed.bytes
+bytes_of p = vec_items p.framed.entries.bytes
 
 abbrev pub sheet_of : Packed → Trees Stamp
 sheet_of p = tree (listed (bytes_of p))
@@ -34,7 +34,7 @@ Refuses bs (Rules place rule) = (framed bs ≡ true) × (verdict (listed bs) ≡
 
 -- Accepted, the store holds the bytes and its sheet is what they mean; refused, they are handed back with the reason.
 abbrev pub Opens : Vec ℕ Global → Result Packed (Refused (Vec ℕ Global)) → Type 0
-Opens v (Ok p) = Means (vec_items v) (sheet_of p) × (p.framed.bytes ≡ v)
+Opens v (Ok p) = Means (vec_items v) (sheet_of p) × (p.framed.entries.bytes ≡ v)
 Opens v (Err e) = Refuses (vec_items v) e.fault × (e.given ≡ v)
 
 abbrev pub OpensAs : Trees Stamp → Result Packed (Refused (Vec ℕ Global)) → Type 0

@@ -1,18 +1,15 @@
 //! The packed store: from bytes to it and back.
 ghost use Rattle.std.specs.Prelude.{◌≡◌, ◌<◌, true, IsSome};
-ghost use Rattle.rules.specs.Rules.{verdict, is_lawful};
-ghost use Rattle.packed.specs.Format.{listed};
 
 use crate::framed::Framed;
 use crate::slot::Slot;
-use rules::judge;
+use rules::Lawful;
 use sheet::Refused;
 
 /// A packed sheet that was opened: its frame is whole and its entries are lawful.
 #[derive(Drop)]
 pub struct Packed {
-    pub(crate) framed: Framed,
-    ghost lawful: { is_lawful (verdict (listed framed.bytes.items)) ≡ true },
+    pub(crate) framed: Lawful<Framed>,
 }
 
 impl Packed {
@@ -25,19 +22,12 @@ impl Packed {
         ensures opens { Opens bytes result }
         ensures accepts { AcceptsMeaning bytes.items result }
     {
-        Packed::judged(Framed::new(bytes)?)
-    }
-
-    fn judged(framed: Framed) -> Result<Packed, Refused<Vec<u8>>>
-        ensures opens { Opens framed.bytes result }
-        ensures accepts { AcceptsMeaning framed.bytes.items result }
-    {
-        match judge(&framed) {
-            Ok(()) => Ok(Packed { framed }),
-            Err(offence) => {
-                let Framed { bytes } = framed;
+        match Lawful::new(Framed::new(bytes)?) {
+            Ok(framed) => Ok(Packed { framed }),
+            Err(Refused { fault, given }) => {
+                let Framed { bytes } = given;
                 Err(Refused {
-                    fault: offence.into(),
+                    fault,
                     given: bytes,
                 })
             }
@@ -46,11 +36,10 @@ impl Packed {
 
     /// The bytes again.
     pub fn into_bytes(self) -> Vec<u8>
-        ensures { result ≡ self.framed.bytes }
+        ensures { result ≡ self.framed.entries.bytes }
     {
-        let Packed {
-            framed: Framed { bytes },
-        } = self;
+        let Packed { framed } = self;
+        let Framed { bytes } = framed.into_entries();
         bytes
     }
 
@@ -60,6 +49,6 @@ impl Packed {
         ensures spacing { spaced result ≡ true }
         ensures few { IsSome result → at < 65536 }
     {
-        self.framed.slot(at)
+        self.framed.entries().slot(at)
     }
 }

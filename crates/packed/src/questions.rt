@@ -37,11 +37,11 @@ impl Store for Packed {
                 },
             },
             Slot::Name(pair) => Entry::Name {
-                text: self.framed.text(pair),
+                text: self.framed.entries().text(pair),
                 stamp: here,
             },
             Slot::Literal(pair) => Entry::Literal {
-                text: self.framed.text(pair),
+                text: self.framed.entries().text(pair),
                 stamp: here,
             },
             Slot::Mark(character, spacing) => Entry::Mark {

@@ -4,7 +4,7 @@ use Rattle.std.proofs.Common.{◌≡◌, ℕ, zero, suc, ◌+◌, ◌≤◌, Boo
 use Rattle.std.proofs.lemmas.Bool.{and_parts, and_from, leb-true, ltb-true, le-leb, lt-ltb}
 use Rattle.std.proofs.lemmas.Bool.Decides.{Decides-eqb, nat_tests}
 use Rattle.sheet.specs.Trees.{Trees, nil, name, mark, literal, group, size, depth}
-use Rattle.sheet.specs.Entries.{Entry, Group, Name, Mark, Literal, End, Nothing, flat, entries, at}
+use Rattle.sheet.specs.Entries.{Entry, Group, Name, Mark, Literal, End, Nothing, flat, entries, at, tree}
 use Rattle.sheet.specs.Limits.{among, mark_characters, legal_mark, apostrophe, StartsWithName, Sound, KeepsLimits, LegalFields}
 use Rattle.sheet.proofs.Forms.{own_sheet}
 use Rattle.sheet.proofs.Places.{at_past}
@@ -255,3 +255,10 @@ legal_there es k h = each_legal (walk false []) 0 es k (is_judged (leb (length e
 pub legal_spacing : (c k : ℕ) → legal_mark c k ≡ true → leb k 1 ≡ true
 unfolding legal_mark
 legal_spacing c k h = (and_parts (leb k 1) _ (and_parts (among c mark_characters) _ h).1).0
+
+-- Lawful entries are the flat form of one sheet, so what stands at a place of them stands there in its flat form.
+pub its_sheet : {St : Type 0} (es : List (Entry St)) → is_lawful (verdict es) ≡ true → OneLawfulSheet es
+its_sheet es h = one_lawful_sheet es (lawful_verdict es h)
+
+pub there : {St : Type 0} (es : List (Entry St)) (k : ℕ) (e : Entry St) → is_lawful (verdict es) ≡ true → e ≡ at es k → e ≡ at (entries (tree es)) k
+there es k e h is = is ∙ ap (λ fs. at fs k) (sym (its_sheet es h).flat)

@@ -6,6 +6,8 @@ use Rattle.sheet.specs.Forms.{FlatFormOf}
 use Rattle.sheet.specs.Limits.{KeepsLimits}
 use Rattle.sheet.specs.declared.fault.Rule.{Rule}
 use Rattle.sheet.specs.declared.fault.Rule.TheVariants.{EndMissing}
+use Rattle.sheet.specs.declared.fault.StoreFault.{StoreFault}
+use Rattle.sheet.specs.declared.fault.StoreFault.TheVariants.{Frame, Rules}
 use Rattle.rules.specs.Rules.{verdict, offending}
 
 -- The entries are the flat form of exactly one sheet, and it keeps the limits.
@@ -23,3 +25,8 @@ SomeLawfulSheet {St} es = (t : Trees St) × KeepsLimits t × FlatFormOf es t
 pub record FirstOffence {St : Type 0} (es : List (Entry St)) (place : ℕ) (rule : Rule) : Type 0 where
   pub before : verdict (take place es) ≡ offending place EndMissing
   pub there : length es ≤ 65535 → place < length es → (more : List (Entry St)) → 0 < length more → length (take (suc place) es ++ more) ≤ 65535 → verdict (take (suc place) es ++ more) ≡ offending place rule
+
+-- Why entries are refused: the first place that breaks a rule.
+abbrev pub Refuses : {St : Type 0} → List (Entry St) → StoreFault → Type 0
+Refuses es Frame = ⊥
+Refuses es (Rules place rule) = (verdict es ≡ offending place rule) × FirstOffence es place rule

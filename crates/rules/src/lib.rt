@@ -7,11 +7,13 @@ ghost use Rattle.rules.specs.Rules.{verdict, walk, judge as judged};
 ghost use Rattle.rules.specs.Verdicts.{OneLawfulSheet, SomeLawfulSheet, FirstOffence};
 
 mod entries;
+mod lawful;
 mod look;
 mod step;
 mod walk;
 
 pub use entries::Entries;
+pub use lawful::Lawful;
 pub use look::{Look, Offence};
 use sheet::Rule;
 pub use step::{is_legal_mark, is_legal_text};

@@ -13,9 +13,12 @@ use Rattle.table.specs.Slots.{parts_listed}
 use Rattle.table.specs.declared.parts.Parts.{Parts}
 use Rattle.table.specs.declared.table.Table.{Table}
 
--- The sheet of a table.
+-- What a table is made of, and its sheet.
+abbrev pub parts_of : Table → Parts
+parts_of t = t.parts.entries
+
 abbrev pub sheet_of : Table → Trees ℕ
-sheet_of t = tree (parts_listed t.parts)
+sheet_of t = tree (parts_listed (parts_of t))
 
 -- The entries mean the sheet: they are its flat form, and it keeps the limits.
 pub record Means (es : List (Entry ℕ)) (t : Trees ℕ) : Type 0 where
@@ -29,7 +32,7 @@ Refuses es (Rules place rule) = (verdict es ≡ offending place rule) × FirstOf
 
 -- Accepted, the store holds the parts and its sheet is what they mean; refused, they are handed back with the reason.
 abbrev pub Opens : Parts → Result Table (Refused Parts) → Type 0
-Opens p (Ok t) = Means (parts_listed p) (sheet_of t) × (t.parts ≡ p)
+Opens p (Ok t) = Means (parts_listed p) (sheet_of t) × (parts_of t ≡ p)
 Opens p (Err e) = Refuses (parts_listed p) e.fault × (e.given ≡ p)
 
 abbrev pub OpensAs : Trees ℕ → Result Table (Refused Parts) → Type 0

@@ -13,7 +13,7 @@ impl Store for Table {
     ghost site = { 0 };
 
     fn count(&self) -> usize {
-        self.parts.entries.len()
+        self.parts.count()
     }
 
     fn entry(&self, at: usize) -> Option<Entry<'_, u32>> {
@@ -34,7 +34,7 @@ impl Store for Table {
                 },
             },
             Slot::Name { place, stamp } => Entry::Name {
-                text: self.parts.texts().at(place),
+                text: self.parts.entries().texts().at(place),
                 stamp,
             },
             Slot::Mark {
@@ -50,7 +50,7 @@ impl Store for Table {
                 stamp,
             },
             Slot::Literal { place, stamp } => Entry::Literal {
-                text: self.parts.texts().at(place),
+                text: self.parts.entries().texts().at(place),
                 stamp,
             },
             Slot::End { distance } => Entry::End {
