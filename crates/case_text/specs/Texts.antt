@@ -13,6 +13,10 @@ abbrev pub lines : List ℕ → List (List ℕ)
 lines [] = []
 lines (b ∷ bs) = cond (b == 10) ([] ∷ lines bs) (led_by b (lines bs))
 
+-- What stands behind a question that is answered: the answer, and the end of the line.
+abbrev pub answered : List ℕ → List ℕ
+answered text = codes " = " ++ (text ++ codes "\n")
+
 -- Cases that begin so, whose questions lead to another case and are answered so, with this written behind a question.
 module _ {C A : Type 0} (fresh : C) (steps : C → List ℕ → C → A → Type 0) (written : C → A → List ℕ) where
   -- A line is written back so and leads from one case to another. A blank line ends a case, and any other is its question with

@@ -44,12 +44,8 @@ pub fn replayed<C: Replay>(heap: Global, text: &[u8]) -> Result<Vec<u8>, AllocEr
     let mut out = Vec::new(heap);
     let mut case = C::fresh();
     for line in text.lines_with_terminator() {
-        case = write_back(
-            heap,
-            case,
-            line.strip_suffix(b"\n").unwrap_or(line),
-            &mut out,
-        )?;
+        let line = line.strip_suffix(b"\n").unwrap_or(line);
+        case = write_back(heap, case, line, &mut out)?;
     }
     Ok(out)
 }

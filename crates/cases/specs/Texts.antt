@@ -1,5 +1,5 @@
 -- A text of cases, and how it is written back.
-use Rattle.std.specs.Prelude.{ℕ, List, ◌++◌, codes}
+use Rattle.std.specs.Prelude.{ℕ, List}
 use Rattle.case_text.specs.Texts as text
 use Rattle.cases.specs.Answers.{answer_text}
 use Rattle.cases.specs.Steps.{Steps}
@@ -7,9 +7,9 @@ use Rattle.cases.specs.declared.answer.Answer.{Answer}
 use Rattle.cases.specs.declared.case.Case.{Case}
 use Rattle.cases.specs.declared.case.Case.TheVariants.{Fresh}
 
--- What stands behind a question: its answer, and the end of the line.
+-- What stands behind a question.
 abbrev pub written : Case → Answer → List ℕ
-written c a = codes " = " ++ (answer_text a ++ codes "\n")
+written c a = text.answered (answer_text a)
 
 -- A line is written back so and leads from one case to another.
 abbrev pub Line : Case → List ℕ → Case → List ℕ → Type 0

@@ -13,9 +13,9 @@ loop-line-init g c =
 pub loop-line-preserved : goal.loop-line-preserved
 loop-line-preserved g c =
     let r = g.C.Replay in
-    let line = stripped _ c.in-Some.line c.unwrap_or.result c.strip_suffix.result c.strip_suffix.ensures.cases c.unwrap_or.ensures in
+    let line = stripped _ c.in-Some.line c.unwrap_or-line.result c.strip_suffix.result c.strip_suffix.ensures.cases c.unwrap_or-line.ensures in
     let left = ap (map without_newline) c.in-Some.ensures.steps ∙ ap (λ l. l ∷ map without_newline c.next.new.self) (sym line) in
-    one_more r.fresh_case r.steps r.written c.loop-line.case c.in_ok-case.case _ c.unwrap_or.result.now _ _ _ (Replays r.fresh_case r.steps r.written r.fresh_case (lines c.args.text.now)) c.loop-line.invariant left c.in_ok-case.ensures
+    one_more r.fresh_case r.steps r.written c.loop-line.case c.in_ok-case.case _ c.unwrap_or-line.result.now _ _ _ (Replays r.fresh_case r.steps r.written r.fresh_case (lines c.args.text.now)) c.loop-line.invariant left c.in_ok-case.ensures
 
 pub returns : goal.returns
 returns g c =
