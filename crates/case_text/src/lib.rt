@@ -16,4 +16,4 @@ pub use fault::LineFault;
 pub use line::question;
 pub use program::replay_input;
 pub use refusal::Refusal;
-pub use replay::{Replay, replayed};
+pub use replay::{Replay, replayed, write_answered};

@@ -1,10 +1,11 @@
 //! A text of cases, line by line.
-ghost use Rattle.std.specs.Prelude.{◌≡◌, ℕ, List, ◌++◌, IfOk, OnOk};
-ghost use Rattle.case_text.specs.Texts.{lines, Line, Replays};
+ghost use Rattle.std.specs.Prelude.{◌≡◌, ℕ, List, ◌++◌, IfOk, IfSome, OnOk};
+ghost use Rattle.case_text.specs.Texts.{answered, lines, Line, Replays};
 
 use crate::line::question;
 use bstr::ByteSlice;
 use std::alloc::{AllocError, Global};
+use std::fmt::Display;
 
 /// What a case is: how it begins, what each question is answered and leads to, and how an answer is written.
 pub trait Replay: Drop {
@@ -35,6 +36,18 @@ pub trait Replay: Drop {
         out: &mut Vec<u8>,
     ) -> Result<(), AllocError>
         ensures { OnOk result (out.new.items ≡ out.old.items ++ written self.now answer) };
+}
+
+/// Writes an answer behind its question, and ends the line.
+pub fn write_answered<A: Display>(
+    heap: Global,
+    answer: &A,
+    out: &mut Vec<u8>,
+) -> Result<(), AllocError>
+    ensures { OnOk result (IfSome (A.output answer.now) (λ text. out.new.items ≡ out.old.items ++ answered text)) }
+{
+    let text = format!(in heap; " = {answer}\n")?;
+    out.extend_from_slice(text.as_bytes())
 }
 
 /// A text of cases, written back with every answer worked out afresh.

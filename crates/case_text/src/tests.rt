@@ -1,7 +1,8 @@
 //! Cases of one kind, read and written back: each question is answered with the number of questions before it.
-ghost use Rattle.std.specs.Prelude.{◌≡◌, ◌+◌, ◌++◌, codes, decimal};
+ghost use Rattle.std.specs.Prelude.{◌≡◌, decimal};
+ghost use Rattle.case_text.specs.Texts.{answered};
 
-use crate::{Replay, from_hex, question, replay_input, replayed};
+use crate::{Replay, from_hex, question, replay_input, replayed, write_answered};
 use std::alloc::{AllocError, Global};
 use std::test::Fail;
 
@@ -17,7 +18,7 @@ impl Replay for Count {
 
     ghost steps = { λ c q d a. (a ≡ c.asked) };
 
-    ghost written = { λ c a. codes " = " ++ (decimal a ++ codes "\n") };
+    ghost written = { λ c a. answered (decimal a) };
 
     fn fresh() -> Count {
         Count { asked: 0 }
@@ -34,8 +35,7 @@ impl Replay for Count {
     }
 
     fn write_answer(&self, heap: Global, answer: u8, out: &mut Vec<u8>) -> Result<(), AllocError> {
-        let text = format!(in heap; " = {answer}\n")?;
-        out.extend_from_slice(text.as_bytes())
+        write_answered(heap, &answer, out)
     }
 }
 

@@ -7,7 +7,7 @@ ghost use Rattle.cases.specs.declared.case.Case.TheVariants.{Fresh as FreshCase}
 
 use crate::answer::Answer;
 use crate::case::Case;
-use case_text::Replay;
+use case_text::{Replay, write_answered};
 use std::alloc::{AllocError, Global};
 
 /// A text of cases, written back with every answer worked out afresh.
@@ -40,7 +40,6 @@ impl Replay for Case {
         answer: Answer,
         out: &mut Vec<u8>,
     ) -> Result<(), AllocError> {
-        let text = format!(in heap; " = {answer}\n")?;
-        out.extend_from_slice(text.as_bytes())
+        write_answered(heap, &answer, out)
     }
 }

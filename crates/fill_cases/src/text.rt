@@ -7,7 +7,7 @@ ghost use Rattle.fill_cases.specs.declared.case.Case.TheVariants.{Fresh as Fresh
 
 use crate::answer::Answer;
 use crate::case::Case;
-use case_text::Replay;
+use case_text::{Replay, write_answered};
 use lines::write_entries;
 use std::alloc::{AllocError, Global};
 use table::Slot;
@@ -50,10 +50,7 @@ impl Replay for Case {
                 write_entries(heap, self.entries(), out)?;
                 out.extend_from_slice(b"\n")
             }
-            _ => {
-                let text = format!(in heap; " = {answer}\n")?;
-                out.extend_from_slice(text.as_bytes())
-            }
+            _ => write_answered(heap, &answer, out),
         }
     }
 }

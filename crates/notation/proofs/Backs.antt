@@ -7,9 +7,10 @@ use Rattle.std.proofs.ByRecursion.{All-push}
 use Rattle.std.proofs.lemmas.Bool.{eq-eqb, ne_eqb, le-leb, and_from, cond-true, cond-false}
 use Rattle.table.specs.declared.slot.Slot.{Slot}
 use Rattle.table.specs.declared.slot.Slot.TheVariants.{Group, Name, Mark, Literal, End}
-use Rattle.notation.specs.Entries.{group_of, name_of, mark_of, literal_of, end_of, slot_by, after_colons, slot_numbers, ReadsBack}
-use Rattle.notation.specs.Numerals.{is_digit, value, number_of, in_front, numbers_of}
-use Rattle.notation.specs.Parts.{front, behind}
+use Rattle.notation.specs.Entries.{group_of, name_of, mark_of, literal_of, end_of, slot_by, slot_of, after_colons, slot_numbers, ReadsBack}
+use Rattle.notation.specs.Numerals.{is_digit, value, number_of, in_front, numbers_in, numbers_of}
+use Rattle.notation.specs.Parts.{front, behind, parts_left}
+use Rattle.notation.proofs.Counts.{numbers_of-suc}
 use Rattle.notation.proofs.Values.{some_text, fits_small}
 
 -- digits, one more at the end
@@ -78,16 +79,17 @@ behind_part p [] h = behind_only 58 p h
 behind_part p (n ∷ ns) h = behind_of 58 p (decimal n ++ after_colons ns) h
 
 numbers_back : (ns : List ℕ) → AllByRecursion (λ n. n ≤ 4294967295) ns → numbers_of (length ns) 58 (fields ns) ≡ Some ns
-unfolding numbers_of
+unfolding numbers_in
 numbers_back [] h = refl
 numbers_back (n ∷ ns) h =
     let small = h.0 in
     let free = no_colon n (omega arith) in
-    (λ i. in_front (number_of (front_part (decimal n) ns free i)) (numbers_of (length ns) 58 (behind_part (decimal n) ns free i)))
+    numbers_of-suc (length ns) 58 (decimal n ++ after_colons ns)
+    ∙ (λ i. in_front (number_of (front_part (decimal n) ns free i)) (numbers_of (length ns) 58 (behind_part (decimal n) ns free i)))
     ∙ (λ i. in_front (number_decimal n small i) (numbers_back ns h.1 i))
 
-letter_back : (k : ℕ) (ns : List ℕ) → (k ≡ 58 → ⊥) → slot_by (front 58 (k ∷ after_colons ns)) (behind 58 (k ∷ after_colons ns)) ≡ slot_by (k ∷ []) (fields ns)
-letter_back k ns other = λ i. slot_by (front_part (k ∷ []) ns (other, tt) i) (behind_part (k ∷ []) ns (other, tt) i)
+letter_back : (k : ℕ) (ns : List ℕ) → (k ≡ 58 → ⊥) → slot_of (k ∷ after_colons ns) ≡ slot_by (k ∷ []) (parts_left 58 (fields ns))
+letter_back k ns other = λ i. slot_by (front_part (k ∷ []) ns (other, tt) i) (parts_left 58 (behind_part (k ∷ []) ns (other, tt) i))
 
 pub slot_back : (s : Slot) → ReadsBack s
 slot_back (Group d k w o c) h t = letter_back 71 (d ∷ k ∷ w ∷ o ∷ c ∷ []) (λ e. omega arith) ∙ ap group_of (numbers_back (d ∷ k ∷ w ∷ o ∷ c ∷ []) h)

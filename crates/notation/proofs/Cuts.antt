@@ -57,7 +57,7 @@ split_by : (t : Bool) (s b : ℕ) (bs part : List ℕ) (rest : Option (List ℕ)
 split_by true s b bs part rest h = refl
 split_by false s b bs part rest h = ap (led_by b) h
 
-split_law : (s : ℕ) (text : List ℕ) → parts s text ≡ front s text ∷ parts_left s (behind s text)
+pub split_law : (s : ℕ) (text : List ℕ) → parts s text ≡ front s text ∷ parts_left s (behind s text)
 unfolding front behind
 split_law s [] = refl
 split_law s (b ∷ bs) = split_by (eqb b s) s b bs (front s bs) (behind s bs) (split_law s bs)

@@ -1,8 +1,6 @@
 pub mod Values
 pub mod Cuts
+pub mod Splits
 pub mod Counts
 pub mod Texts
-pub mod Letters
-pub mod Verbs
-pub mod Signs
 pub mod Backs

@@ -1,6 +1,6 @@
 -- Decimal numbers.
 use Rattle.std.specs.Prelude.{ℕ, zero, suc, ◌+◌, ◌-◌, ◌*◌, Bool, cond, ◌&&◌, List, [], ◌∷◌, Some, None, Option, nat_le}
-use Rattle.notation.specs.Parts.{front, behind}
+use Rattle.notation.specs.Parts.{parts_left}
 
 -- The digits 0 to 9.
 abbrev pub is_digit : ℕ → Bool
@@ -20,7 +20,7 @@ fitting None = None
 fitting (Some n) = fits n
 
 -- The number that a text writes: one digit or more.
-unfoldable pub number_of : List ℕ → Option ℕ
+abbrev pub number_of : List ℕ → Option ℕ
 number_of [] = None
 number_of (b ∷ bs) = fitting (value 0 (b ∷ bs))
 
@@ -29,9 +29,13 @@ in_front None ns = None
 in_front (Some n) None = None
 in_front (Some n) (Some ns) = Some (n ∷ ns)
 
+-- Exactly so many numbers, one in each part.
+unfoldable pub numbers_in : ℕ → List (List ℕ) → Option (List ℕ)
+numbers_in zero [] = Some []
+numbers_in zero (p ∷ ps) = None
+numbers_in (suc n) [] = None
+numbers_in (suc n) (p ∷ ps) = in_front (number_of p) (numbers_in n ps)
+
 -- Exactly so many numbers, with a separator between each and the next.
-unfoldable pub numbers_of : ℕ → ℕ → Option (List ℕ) → Option (List ℕ)
-numbers_of zero s None = Some []
-numbers_of zero s (Some text) = None
-numbers_of (suc n) s None = None
-numbers_of (suc n) s (Some text) = in_front (number_of (front s text)) (numbers_of n s (behind s text))
+abbrev pub numbers_of : ℕ → ℕ → Option (List ℕ) → Option (List ℕ)
+numbers_of n s text = numbers_in n (parts_left s text)

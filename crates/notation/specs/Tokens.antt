@@ -1,6 +1,7 @@
 -- The notation of a sheet's tokens.
 use Rattle.std.specs.Prelude.{ℕ, cond, List, [], ◌∷◌, Some, None, codes, Option}
 use Rattle.std.specs.Str.{bytes_eq}
+use Rattle.sheet.specs.Numbers.{delimiter_number, spacing_number}
 use Rattle.notation.specs.Parts.{front, behind}
 use Rattle.notation.specs.declared.tokens.SheetToken.{SheetToken}
 use Rattle.notation.specs.declared.tokens.SheetToken.TheVariants.{Name, Literal, Mark, Open, Close}
@@ -16,9 +17,9 @@ pub data Piece : Type 0 where
 abbrev pub piece : SheetToken → Piece
 piece (Name text) = name text.now
 piece (Literal text) = literal text.now
-piece (Mark character spacing) = mark character spacing
-piece (Open delimiter) = opening delimiter
-piece (Close delimiter) = closing delimiter
+piece (Mark character spacing) = mark character (spacing_number spacing)
+piece (Open delimiter) = opening (delimiter_number delimiter)
+piece (Close delimiter) = closing (delimiter_number delimiter)
 
 -- The brackets of a group by its delimiter: 0 invisible, 1 parenthesis, 2 brace, 3 bracket.
 abbrev pub bracket_of : List ℕ → Option Piece

@@ -3,6 +3,7 @@
 
 mod calls;
 mod entries;
+mod fields;
 mod numerals;
 mod parts;
 mod tokens;
@@ -10,5 +11,5 @@ mod tokens;
 pub use calls::call;
 pub use entries::{slot, write_slot};
 pub use numerals::{number, numbers};
-pub use parts::first_part;
+pub use parts::{first_part, split_first};
 pub use tokens::{SheetToken, token};

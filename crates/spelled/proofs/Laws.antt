@@ -11,9 +11,8 @@ use Rattle.filling.specs.declared.call.Call.TheVariants.{Name, Mark, Literal, Op
 use Rattle.filling.proofs.Laid.{length_flat}
 use Rattle.notation.specs.Tokens.{Piece, token_of, opening, closing, name as name_token, mark as mark_token, literal as literal_token}
 use Rattle.spelled.specs.Whole.{TellsNothing}
-use Rattle.spelled.specs.Reading.{piece_text, word_text, texts_spelled, text_place, opened, Step, a_step, closing_step, step, word_step, in_front, then_on, at_the_end, calls_of, TooMuch}
+use Rattle.spelled.specs.Reading.{OpenGroup, piece_text, word_text, texts_spelled, text_place, opened, Step, a_step, closing_step, step, word_step, in_front, then_on, at_the_end, calls_of, TooMuch}
 use Rattle.spelled.specs.Spelling.{Spelled, texts_of}
-use Rattle.spelled.specs.declared.reading.Opened.{Opened}
 use Rattle.spelled.proofs.Readings.{joined}
 use Rattle.spelled.proofs.Places.{behind_text, legal_there, read_there}
 
@@ -54,16 +53,16 @@ joined_twice cs ds None = refl
 joined_twice cs ds (Some es) = ap Some (sym (append_assoc cs ds es))
 
 -- One word.
-one_read : (p off off' : ℕ) (st st' : List Opened) (w : List ℕ) (ws : List (List ℕ)) (x : Piece) (c : Call) → token_of w ≡ Some x → step p off st x ≡ Some (a_step c off' st') → calls_of p off st (w ∷ ws) ≡ in_front c (calls_of (p + 1) off' st' ws)
+one_read : (p off off' : ℕ) (st st' : List OpenGroup) (w : List ℕ) (ws : List (List ℕ)) (x : Piece) (c : Call) → token_of w ≡ Some x → step p off st x ≡ Some (a_step c off' st') → calls_of p off st (w ∷ ws) ≡ in_front c (calls_of (p + 1) off' st' ws)
 one_read p off off' st st' w ws x c token steps =
-    let more : ℕ → List Opened → Option (List Call) = λ o g. calls_of (p + 1) o g ws in
+    let more : ℕ → List OpenGroup → Option (List Call) = λ o g. calls_of (p + 1) o g ws in
     ap (λ t. then_on (word_step p off st t) more) token ∙ ap (λ s. then_on s more) steps
 
-same_numbers : (p q off off' : ℕ) (st : List Opened) (ws : List (List ℕ)) → p ≡ q → off ≡ off' → calls_of p off st ws ≡ calls_of q off' st ws
+same_numbers : (p q off off' : ℕ) (st : List OpenGroup) (ws : List (List ℕ)) → p ≡ q → off ≡ off' → calls_of p off st ws ≡ calls_of q off' st ws
 same_numbers p q off off' st ws e f = ap (λ n. calls_of n off st ws) e ∙ ap (λ n. calls_of q n st ws) f
 
 -- The words of the trees are read as their calls.
-reads : (t : Trees ℕ) (p off : ℕ) (st : List Opened) (front back : List (List ℕ)) → Spelled p t front → calls_of p off st (front ++ back) ≡ joined (calls_at off t) (calls_of (p + size t) (off + length (texts_of t)) st back)
+reads : (t : Trees ℕ) (p off : ℕ) (st : List OpenGroup) (front back : List (List ℕ)) → Spelled p t front → calls_of p off st (front ++ back) ≡ joined (calls_at off t) (calls_of (p + size t) (off + length (texts_of t)) st back)
 reads nil p off st front back is = ap (λ l. calls_of p off st (l ++ back)) is ∙ same_numbers p (p + 0) off (off + 0) st back (omega arith) (omega arith) ∙ sym (joined_none _)
 reads (name b s r) p off st front back (w, rest, is, token, stamp, more) =
     let n = length-append b (texts_of r) in
@@ -89,7 +88,7 @@ reads (literal b s r) p off st front back (w, rest, is, token, stamp, more) =
     ∙ in_joined (Literal (text_place off b) s) (calls_at (off + length b) r) _
     ∙ ap (joined (calls_at off (literal b s r))) (same_numbers _ (p + suc (size r)) _ (off + length (b ++ texts_of r)) st back (omega arith) (omega arith))
 reads (group d w o c i r) p off st front back (x, inner, y, rest, is, opens, closes, whole, opening-stamp, closing-stamp, hi, hr) =
-    let g : Opened = opened (4 * p + 3) d in
+    let g : OpenGroup = opened (4 * p + 3) d in
     let off' = off + length (texts_of i) in
     let n = length-append (texts_of i) (texts_of r) in
     let end : Option (List Call) = calls_of (p + 2 + size i + size r) (off' + length (texts_of r)) st back in
@@ -141,12 +140,12 @@ count_read (group d w o c i r) p ws (x, inner, y, rest, is, opens, closes, whole
 
 -- The other way round: what the first call says of the first word.
 
-abbrev HeadsClose : ℕ → ℕ → List Opened → ℕ → List Call → List (List ℕ) → Type 0
+abbrev HeadsClose : ℕ → ℕ → List OpenGroup → ℕ → List Call → List (List ℕ) → Type 0
 HeadsClose p off [] c more ws = ⊥
 HeadsClose p off (g ∷ st) c more ws =
     (w : List ℕ) × (rest : List (List ℕ)) × (ws ≡ w ∷ rest) × (token_of w ≡ Some (closing g.delimiter)) × (c ≡ g.closing) × (calls_of (p + 1) off st rest ≡ Some more)
 
-abbrev Heads : ℕ → ℕ → List Opened → Call → List Call → List (List ℕ) → Type 0
+abbrev Heads : ℕ → ℕ → List OpenGroup → Call → List Call → List (List ℕ) → Type 0
 Heads p off st (Name q s) more ws =
     (w : List ℕ) × (rest : List (List ℕ)) × (b : List ℕ) × (ws ≡ w ∷ rest) × (token_of w ≡ Some (name_token b)) × (q ≡ text_place off b) × (s ≡ 4 * p + 1) × (calls_of (p + 1) (off + length b) st rest ≡ Some more)
 Heads p off st (Mark c k s) more ws =
@@ -162,7 +161,7 @@ front_is : (c d : Call) (o : Option (List Call)) (ds : List Call) → in_front c
 front_is c d None ds e = nobody (d ∷ ds) e
 front_is c d (Some cs) ds e = let a : c ∷ cs ≡ d ∷ ds = cc in (cc, ap Some cc)
 
-heads_close : (p off d : ℕ) (st : List Opened) (w : List ℕ) (rest : List (List ℕ)) (call : Call) (more : List Call) → token_of w ≡ Some (closing d) → then_on (closing_step off st d) (λ o g. calls_of (p + 1) o g rest) ≡ Some (call ∷ more) → Heads p off st call more (w ∷ rest)
+heads_close : (p off d : ℕ) (st : List OpenGroup) (w : List ℕ) (rest : List (List ℕ)) (call : Call) (more : List Call) → token_of w ≡ Some (closing d) → then_on (closing_step off st d) (λ o g. calls_of (p + 1) o g rest) ≡ Some (call ∷ more) → Heads p off st call more (w ∷ rest)
 heads_close p off d [] w rest call more token h = nobody (call ∷ more) h
 heads_close p off d (g ∷ st) w rest call more token h = go (eqb g.delimiter d) refl h
   where
@@ -172,7 +171,7 @@ heads_close p off d (g ∷ st) w rest call more token h = go (eqb g.delimiter d)
         subst (λ (x : Call). Heads p off (g ∷ st) x more (w ∷ rest)) f.0 (w, rest, refl, token ∙ ap (λ n. Some (closing n)) (sym (eqb-true g.delimiter d e)), refl, f.1)
     go false e k = nobody (call ∷ more) k
 
-heads_at : (p off : ℕ) (st : List Opened) (w : List ℕ) (rest : List (List ℕ)) (call : Call) (more : List Call) (t : Option Piece) → token_of w ≡ t → then_on (word_step p off st t) (λ o g. calls_of (p + 1) o g rest) ≡ Some (call ∷ more) → Heads p off st call more (w ∷ rest)
+heads_at : (p off : ℕ) (st : List OpenGroup) (w : List ℕ) (rest : List (List ℕ)) (call : Call) (more : List Call) (t : Option Piece) → token_of w ≡ t → then_on (word_step p off st t) (λ o g. calls_of (p + 1) o g rest) ≡ Some (call ∷ more) → Heads p off st call more (w ∷ rest)
 heads_at p off st w rest call more None token h = nobody (call ∷ more) h
 heads_at p off st w rest call more (Some (name_token b)) token h =
     let f = front_is (Name (text_place off b) (4 * p + 1)) call _ more h in
@@ -188,16 +187,16 @@ heads_at p off st w rest call more (Some (opening d)) token h =
     subst (λ (x : Call). Heads p off st x more (w ∷ rest)) f.0 (w, rest, refl, token, refl, refl, f.1)
 heads_at p off st w rest call more (Some (closing d)) token h = heads_close p off d st w rest call more token h
 
-no_calls : {A : Type 0} (c : Call) (cs : List Call) (st : List Opened) → at_the_end st ≡ Some (c ∷ cs) → A
+no_calls : {A : Type 0} (c : Call) (cs : List Call) (st : List OpenGroup) → at_the_end st ≡ Some (c ∷ cs) → A
 no_calls c cs [] e = let a : [] ≡ c ∷ cs = cc in let z : ◌≡◌ {A = ℕ} 0 1 = cc in absurd (omega arith)
 no_calls c cs (g ∷ st) e = nobody (c ∷ cs) e
 
-heads : (p off : ℕ) (st : List Opened) (call : Call) (more : List Call) (ws : List (List ℕ)) → calls_of p off st ws ≡ Some (call ∷ more) → Heads p off st call more ws
+heads : (p off : ℕ) (st : List OpenGroup) (call : Call) (more : List Call) (ws : List (List ℕ)) → calls_of p off st ws ≡ Some (call ∷ more) → Heads p off st call more ws
 heads p off st call more [] h = no_calls call more st h
 heads p off st call more (w ∷ rest) h = heads_at p off st w rest call more (token_of w) refl h
 
 -- Words that are read as the calls that tell the trees, and then others: those in front spell the trees.
-record Split (text : List ℕ) (p off : ℕ) (st : List Opened) (t : Trees ℕ) (more : List Call) (ws : List (List ℕ)) : Type 0 where
+record Split (text : List ℕ) (p off : ℕ) (st : List OpenGroup) (t : Trees ℕ) (more : List Call) (ws : List (List ℕ)) : Type 0 where
   front : List (List ℕ)
   back : List (List ℕ)
   is : ws ≡ front ++ back
@@ -210,7 +209,7 @@ behind_word : (text : List ℕ) (off : ℕ) (ws rest : List (List ℕ)) (w : Lis
 behind_word text off ws rest w x h is token = h ∙ ap texts_spelled is ∙ ap (λ t. word_text t ++ texts_spelled rest) token
 
 -- A tree of one word, and what follows it.
-split_word : (text : List ℕ) (p off off' : ℕ) (st : List Opened) (t r : Trees ℕ) (more : List Call) (ws rest : List (List ℕ)) (w : List ℕ) → Split text (p + 1) off' st r more rest → ws ≡ w ∷ rest → size t ≡ suc (size r) → off + length (texts_of t) ≡ off' + length (texts_of r) → ((f : List (List ℕ)) → Spelled (p + 1) r f → Spelled p t (w ∷ f)) → Split text p off st t more ws
+split_word : (text : List ℕ) (p off off' : ℕ) (st : List OpenGroup) (t r : Trees ℕ) (more : List Call) (ws rest : List (List ℕ)) (w : List ℕ) → Split text (p + 1) off' st r more rest → ws ≡ w ∷ rest → size t ≡ suc (size r) → off + length (texts_of t) ≡ off' + length (texts_of r) → ((f : List (List ℕ)) → Spelled (p + 1) r f → Spelled p t (w ∷ f)) → Split text p off st t more ws
 split_word text p off off' st t r more ws rest w y is n far so =
     record {
       front = w ∷ y.front;
@@ -222,7 +221,7 @@ split_word text p off off' st t r more ws rest w y is n far so =
     }
 
 -- A group: its contents, and what follows it.
-split_group : (text : List ℕ) (d w o c p off : ℕ) (st : List Opened) (i r : Trees ℕ) (within more : List Call) (ws rest last : List (List ℕ)) (x y : List ℕ) (u : Split text (p + 1) off (opened (4 * p + 3) d ∷ st) i within rest) (v : Split text (p + 1 + size i + 1) (off + length (texts_of i)) st r more last) → ws ≡ x ∷ rest → u.back ≡ y ∷ last → token_of x ≡ Some (opening d) → token_of y ≡ Some (closing d) → w ≡ 4 * p + 4 → o ≡ 4 * p + 2 → c ≡ 4 * p + 3 → Split text p off st (group d w o c i r) more ws
+split_group : (text : List ℕ) (d w o c p off : ℕ) (st : List OpenGroup) (i r : Trees ℕ) (within more : List Call) (ws rest last : List (List ℕ)) (x y : List ℕ) (u : Split text (p + 1) off (opened (4 * p + 3) d ∷ st) i within rest) (v : Split text (p + 1 + size i + 1) (off + length (texts_of i)) st r more last) → ws ≡ x ∷ rest → u.back ≡ y ∷ last → token_of x ≡ Some (opening d) → token_of y ≡ Some (closing d) → w ≡ 4 * p + 4 → o ≡ 4 * p + 2 → c ≡ 4 * p + 3 → Split text p off st (group d w o c i r) more ws
 split_group text d w o c p off st i r within more ws rest last x y u v ws-is back_is opens closes whole opening-stamp closing-stamp =
     let place : p + 1 + size i + 1 ≡ p + 2 + size i = omega arith in
     let n = length-append (texts_of i) (texts_of r) in
@@ -236,7 +235,7 @@ split_group text d w o c p off st i r within more ws rest last x y u v ws-is bac
       texts = ap (λ m. drop m text) far ∙ v.texts;
     }
 
-spells : (text : List ℕ) (t : Trees ℕ) (p off : ℕ) (st : List Opened) (calls more : List Call) (ws : List (List ℕ)) → length text ≤ 65535 → Tells text [] t calls → Sound t → calls_of p off st ws ≡ Some (calls ++ more) → drop off text ≡ texts_spelled ws → Split text p off st t more ws
+spells : (text : List ℕ) (t : Trees ℕ) (p off : ℕ) (st : List OpenGroup) (calls more : List Call) (ws : List (List ℕ)) → length text ≤ 65535 → Tells text [] t calls → Sound t → calls_of p off st ws ≡ Some (calls ++ more) → drop off text ≡ texts_spelled ws → Split text p off st t more ws
 spells text nil p off st calls more ws short tells sound h texts =
     record {
       front = [];
@@ -272,7 +271,7 @@ spells text (literal b s r) p off st calls more ws short (q, after, is, at, tell
     let far : off + length (b ++ texts_of r) ≡ off + length b + length (texts_of r) = omega arith in
     split_word text p off (off + length b) st (literal b s r) r more ws rest w y ws-is refl far (λ f k. (w, f, refl, token ∙ ap (λ x. Some (literal_token x)) same, stamp, k))
 spells text (group d w o c i r) p off st calls more ws short (inner, after, is, hi, hr) sound h texts =
-    let g : Opened = opened (4 * p + 3) d in
+    let g : OpenGroup = opened (4 * p + 3) d in
     let (x, rest, ws-is, opens, whole, opening-stamp, left) = heads p off st (Open d w o) ((inner ++ Close c ∷ after) ++ more) ws (h ∙ ap (λ l. Some (l ++ more)) is) in
     let there = behind_word text off ws rest x (opening d) texts ws-is opens in
     let u = spells text i (p + 1) off (g ∷ st) inner (Close c ∷ (after ++ more)) rest short hi sound.1 (left ∙ ap Some (append_assoc inner (Close c ∷ after) more)) there in
@@ -282,7 +281,7 @@ spells text (group d w o c i r) p off st calls more ws short (inner, after, is, 
     split_group text d w o c p off st i r (Close c ∷ (after ++ more)) more ws rest last x y u v ws-is back_is opens closes whole opening-stamp closing-stamp
 
 -- No call is left, so no word is.
-no_words : (p off : ℕ) (st : List Opened) (ws : List (List ℕ)) → calls_of p off st ws ≡ Some [] → ws ≡ []
+no_words : (p off : ℕ) (st : List OpenGroup) (ws : List (List ℕ)) → calls_of p off st ws ≡ Some [] → ws ≡ []
 no_words p off st [] h = refl
 no_words p off st (w ∷ ws) h = go (word_step p off st (token_of w)) h
   where

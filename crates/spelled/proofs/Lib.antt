@@ -1,5 +1,4 @@
 pub mod Runs
-pub mod Steps
 pub mod Readings
 pub mod Places
 pub mod Laws

@@ -11,8 +11,9 @@ use Rattle.spelled.specs.Spelling.{SpellsOut}
 use Rattle.spelled.specs.declared.fault.SpelledFault.{SpelledFault}
 use Rattle.spelled.specs.declared.fault.SpelledFault.TheVariants.{NotASheet, Lawless, Memory}
 use Rattle.spelled.specs.declared.reading.Reading.{Reading}
-use Rattle.spelled.specs.declared.whole.WholeFault.{WholeFault}
-use Rattle.spelled.specs.declared.whole.WholeFault.TheVariants.{Refused}
+use Rattle.spelled.specs.Faults.{spelled_fault}
+use Rattle.spelled.specs.declared.fault.WholeFault.{WholeFault}
+use Rattle.spelled.specs.declared.fault.WholeFault.TheVariants.{Refused, Memory as WholeMemory}
 use Rattle.spelled.proofs.Laws.{told_spelled, not_a_sheet, too_much, not_lawful}
 
 pub unread : (ws : List (List ℕ)) (e : SpelledFault) → Reads ws (Err e) → SpellsOut ws (Err e)
@@ -29,8 +30,8 @@ filled_out ws r calls template t (is, texts, short) same none (its-text, its-tem
     let s = told_spelled (vec_items r.text) (sheet_of t) (vec_items r.calls) ws (room r short) (its_sheet t).limits (subst (λ (l : List Call). Tells (vec_items r.text) [] (sheet_of t) l) same told) is texts in
     (s.0, its-text ∙ s.1, its-template ∙ none)
 
-pub refused_out : (ws : List (List ℕ)) (r : Reading) (calls : List Call) (template : List ℕ) (f : WholeFault) → Reads ws (Ok r) → calls ≡ vec_items r.calls → template ≡ [] → f ≡ Refused → WholeSheet (vec_items r.text) template calls (Err f) → SpellsOut ws (Err Lawless)
-refused_out ws r calls template f (is, texts, short) same none fault whole =
-    let nothing : TellsNothing (vec_items r.text) template calls = subst (λ (x : WholeFault). WholeSheet (vec_items r.text) template calls (Err x)) fault whole in
+pub refused_out : (ws : List (List ℕ)) (r : Reading) (calls : List Call) (template : List ℕ) (f : WholeFault) → Reads ws (Ok r) → calls ≡ vec_items r.calls → template ≡ [] → WholeSheet (vec_items r.text) template calls (Err f) → SpellsOut ws (Err (spelled_fault f))
+refused_out ws r calls template Refused (is, texts, short) same none nothing =
     let without : TellsNothing (vec_items r.text) [] calls = subst (λ (l : List ℕ). TellsNothing (vec_items r.text) l calls) none nothing in
     not_lawful (vec_items r.text) (vec_items r.calls) ws (room r short) is texts (subst (λ (l : List Call). TellsNothing (vec_items r.text) [] l) same without)
+refused_out ws r calls template WholeMemory read same none nothing = tt

@@ -1,3 +1,4 @@
+pub mod Faults
 pub mod Whole
 pub mod Reading
 pub mod Spelling

@@ -2,7 +2,7 @@
 use Rattle.std.specs.Prelude.{◌≡◌, ℕ, ◌+◌, ◌*◌, ◌≤◌, List, [], ◌∷◌, ◌++◌, length, Some, Ok, Err, vec_items, Result}
 use Rattle.sheet.specs.Trees.{Trees, nil, name, mark, literal, group, size}
 use Rattle.sheet.specs.Limits.{KeepsLimits}
-use Rattle.table.specs.Opening.{sheet_of}
+use Rattle.table.specs.Opening.{parts_of, sheet_of}
 use Rattle.table.specs.declared.table.Table.{Table}
 use Rattle.notation.specs.Tokens.{token_of, opening, closing, name as name_token, mark as mark_token, literal as literal_token}
 use Rattle.spelled.specs.declared.fault.SpelledFault.{SpelledFault}
@@ -41,7 +41,7 @@ texts_of (group d w o c i r) = texts_of i ++ texts_of r
 -- that are lawless spell none that keeps the limits and whose texts have room in one text.
 abbrev pub SpellsOut : List (List ℕ) → Result Table SpelledFault → Type 0
 SpellsOut ws (Ok t) =
-    Spelled 0 (sheet_of t) ws × (vec_items t.parts.sheet ≡ texts_of (sheet_of t)) × (vec_items t.parts.template ≡ [])
+    Spelled 0 (sheet_of t) ws × (vec_items (parts_of t).sheet ≡ texts_of (sheet_of t)) × (vec_items (parts_of t).template ≡ [])
 SpellsOut ws (Err NotASheet) = (u : Trees ℕ) → Spelled 0 u ws → ⊥
 SpellsOut ws (Err Lawless) = (u : Trees ℕ) → KeepsLimits u → length (texts_of u) ≤ 65535 → Spelled 0 u ws → ⊥
 SpellsOut ws (Err Memory) = Unit {0}

@@ -6,6 +6,6 @@ mod line;
 mod reading;
 mod whole;
 
-pub use fault::SpelledFault;
+pub use fault::{SpelledFault, WholeFault};
 pub use line::spelled;
-pub use whole::{WholeFault, filled};
+pub use whole::filled;

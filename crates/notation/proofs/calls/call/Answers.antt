@@ -1,40 +1,46 @@
-use Rattle.std.proofs.Common.{codes}
+use Rattle.std.proofs.Common.{◌≡◌, codes, sym, ap, ◌∙◌, rules}
 use Rattle.std.specs.Option.{option_map}
-use Rattle.notation.proofs.Texts.{same, differ}
-use Rattle.notation.proofs.Verbs.{of_verb, no_verb}
+use Rattle.filling.specs.declared.call.Call.TheVariants.{Literal}
+use Rattle.std.proofs.lemmas.Slice.Eq.{text_from_reads}
+use Rattle.notation.specs.Calls.{call_by}
 use Rattle.notation.proofs.calls.call.Goals as goal
+use Rattle.notation.proofs.calls.call.Goals.{in_default-via-then-verb-lt4, in_default-via-else-verb-lt4+then-verb-lt5+in-110+in-97+in-109+in_default-1, in_default-via-else-verb-lt4+then-verb-lt5+in-110+in-97+in_default-1, in_default-via-else-verb-lt4+then-verb-lt5+in-110+in_default-1, in_default-via-else-verb-lt4+then-verb-lt5+in-109+in-97+in-114+in_default-1, in_default-via-else-verb-lt4+then-verb-lt5+in-109+in-97+in_default-1, in_default-via-else-verb-lt4+then-verb-lt5+in-109+in_default-1, in_default-via-else-verb-lt4+then-verb-lt5+in-111+in-112+in-101+in_default-1, in_default-via-else-verb-lt4+then-verb-lt5+in-111+in-112+in_default-1, in_default-via-else-verb-lt4+then-verb-lt5+in-111+in_default-1, in_default-via-else-verb-lt4+then-verb-lt5+in-115+in-101+in-97+in_default-1, in_default-via-else-verb-lt4+then-verb-lt5+in-115+in-101+in_default-1, in_default-via-else-verb-lt4+then-verb-lt5+in-115+in_default-1, in_default-via-else-verb-lt4+then-verb-lt5+in_default-1, in_default-via-else-verb-lt4+else-verb-lt5+then-verb-lt6+in-99+in-108+in-111+in-115+in_default-1, in_default-via-else-verb-lt4+else-verb-lt5+then-verb-lt6+in-99+in-108+in-111+in_default-1, in_default-via-else-verb-lt4+else-verb-lt5+then-verb-lt6+in-99+in-108+in_default-1, in_default-via-else-verb-lt4+else-verb-lt5+then-verb-lt6+in-99+in_default-1, in_default-via-else-verb-lt4+else-verb-lt5+then-verb-lt6+in_default-1, in_default-via-else-verb-lt4+else-verb-lt5+else-verb-lt6+then-verb-lt7, in_default-via-else-verb-lt4+else-verb-lt5+else-verb-lt6+else-verb-lt7+then-verb-lt8+in-108+in-105+in-116+in-101+in-114+in-97+in_default-1, in_default-via-else-verb-lt4+else-verb-lt5+else-verb-lt6+else-verb-lt7+then-verb-lt8+in-108+in-105+in-116+in-101+in-114+in_default-1, in_default-via-else-verb-lt4+else-verb-lt5+else-verb-lt6+else-verb-lt7+then-verb-lt8+in-108+in-105+in-116+in-101+in_default-1, in_default-via-else-verb-lt4+else-verb-lt5+else-verb-lt6+else-verb-lt7+then-verb-lt8+in-108+in-105+in-116+in_default-1, in_default-via-else-verb-lt4+else-verb-lt5+else-verb-lt6+else-verb-lt7+then-verb-lt8+in-108+in-105+in_default-1, in_default-via-else-verb-lt4+else-verb-lt5+else-verb-lt6+else-verb-lt7+then-verb-lt8+in-108+in_default-1, in_default-via-else-verb-lt4+else-verb-lt5+else-verb-lt6+else-verb-lt7+then-verb-lt8+in_default-1, in_default-via-else-verb-lt4+else-verb-lt5+else-verb-lt6+else-verb-lt7+else-verb-lt8}
 
-pub returns-then-eq : goal.returns-then-eq
-returns-then-eq c =
-    let verb = c.first_part.result.0.now in
-    of_verb (codes "name") verb c.args.question.now (option_map (λ x. x.now) c.first_part.result.1) c.name.result (same verb (codes "name") _ c.as_slice.ensures c.if-eq.ensures) c.first_part.ensures.before c.first_part.ensures.after c.name.ensures
+pub returns-in_ok-place-in-literal : goal.returns-in_ok-place-in-literal
+returns-in_ok-place-in-literal c =
+    let s = c.split_first-fields in
+    let e : s.result.0.now ≡ codes "literal" = search (rules, text_from_reads) in
+    ap (option_map (λ t. Literal t.0 t.1)) (sym c.in_ok-place-in-literal.was ∙ c.placed-in-literal.ensures) ∙ (λ i. call_by ((sym e ∙ s.ensures.first) i) (s.ensures.others i))
 
-pub returns-then-eq-2 : goal.returns-then-eq-2
-returns-then-eq-2 c =
-    let verb = c.first_part.result.0.now in
-    of_verb (codes "mark") verb c.args.question.now (option_map (λ x. x.now) c.first_part.result.1) c.mark.result (same verb (codes "mark") _ c.as_slice-else-eq.ensures c.if-eq-2.ensures) c.first_part.ensures.before c.first_part.ensures.after c.mark.ensures
-
-pub returns-then-eq-3 : goal.returns-then-eq-3
-returns-then-eq-3 c =
-    let verb = c.first_part.result.0.now in
-    of_verb (codes "literal") verb c.args.question.now (option_map (λ x. x.now) c.first_part.result.1) c.literal.result (same verb (codes "literal") _ c.as_slice-else-eq-2.ensures c.if-eq-3.ensures) c.first_part.ensures.before c.first_part.ensures.after c.literal.ensures
-
-pub returns-then-eq-4 : goal.returns-then-eq-4
-returns-then-eq-4 c =
-    let verb = c.first_part.result.0.now in
-    of_verb (codes "open") verb c.args.question.now (option_map (λ x. x.now) c.first_part.result.1) c.open.result (same verb (codes "open") _ c.as_slice-else-eq-3.ensures c.if-eq-4.ensures) c.first_part.ensures.before c.first_part.ensures.after c.open.ensures
-
-pub returns-then-eq-5 : goal.returns-then-eq-5
-returns-then-eq-5 c =
-    let verb = c.first_part.result.0.now in
-    of_verb (codes "close") verb c.args.question.now (option_map (λ x. x.now) c.first_part.result.1) c.close.result (same verb (codes "close") _ c.as_slice-else-eq-4.ensures c.if-eq-5.ensures) c.first_part.ensures.before c.first_part.ensures.after c.close.ensures
-
-pub returns-then-eq-6 : goal.returns-then-eq-6
-returns-then-eq-6 c =
-    let verb = c.first_part.result.0.now in
-    of_verb (codes "seal") verb c.args.question.now (option_map (λ x. x.now) c.first_part.result.1) c.seal.result (same verb (codes "seal") _ c.as_slice-else-eq-5.ensures c.if-eq-6.ensures) c.first_part.ensures.before c.first_part.ensures.after c.seal.ensures
-
-pub returns-else-eq-6 : goal.returns-else-eq-6
-returns-else-eq-6 c =
-    let verb = c.first_part.result.0.now in
-    no_verb verb c.args.question.now (option_map (λ x. x.now) c.first_part.result.1) c.first_part.ensures.before c.first_part.ensures.after (differ verb (codes "name") _ c.as_slice.ensures c.if-eq.ensures) (differ verb (codes "mark") _ c.as_slice-else-eq.ensures c.if-eq-2.ensures) (differ verb (codes "literal") _ c.as_slice-else-eq-2.ensures c.if-eq-3.ensures) (differ verb (codes "open") _ c.as_slice-else-eq-3.ensures c.if-eq-4.ensures) (differ verb (codes "close") _ c.as_slice-else-eq-4.ensures c.if-eq-5.ensures) (differ verb (codes "seal") _ c.as_slice-else-eq-5.ensures c.if-eq-6.ensures)
+pub returns-in_default : goal.returns-in_default
+returns-in_default c =
+    elim c.in_default.branch [
+      | in_default-via-then-verb-lt4 w ↦ search rules
+      | in_default-via-else-verb-lt4+then-verb-lt5+in-110+in-97+in-109+in_default-1 w ↦ search rules
+      | in_default-via-else-verb-lt4+then-verb-lt5+in-110+in-97+in_default-1 w ↦ search rules
+      | in_default-via-else-verb-lt4+then-verb-lt5+in-110+in_default-1 w ↦ search rules
+      | in_default-via-else-verb-lt4+then-verb-lt5+in-109+in-97+in-114+in_default-1 w ↦ search rules
+      | in_default-via-else-verb-lt4+then-verb-lt5+in-109+in-97+in_default-1 w ↦ search rules
+      | in_default-via-else-verb-lt4+then-verb-lt5+in-109+in_default-1 w ↦ search rules
+      | in_default-via-else-verb-lt4+then-verb-lt5+in-111+in-112+in-101+in_default-1 w ↦ search rules
+      | in_default-via-else-verb-lt4+then-verb-lt5+in-111+in-112+in_default-1 w ↦ search rules
+      | in_default-via-else-verb-lt4+then-verb-lt5+in-111+in_default-1 w ↦ search rules
+      | in_default-via-else-verb-lt4+then-verb-lt5+in-115+in-101+in-97+in_default-1 w ↦ search rules
+      | in_default-via-else-verb-lt4+then-verb-lt5+in-115+in-101+in_default-1 w ↦ search rules
+      | in_default-via-else-verb-lt4+then-verb-lt5+in-115+in_default-1 w ↦ search rules
+      | in_default-via-else-verb-lt4+then-verb-lt5+in_default-1 w ↦ search rules
+      | in_default-via-else-verb-lt4+else-verb-lt5+then-verb-lt6+in-99+in-108+in-111+in-115+in_default-1 w ↦ search rules
+      | in_default-via-else-verb-lt4+else-verb-lt5+then-verb-lt6+in-99+in-108+in-111+in_default-1 w ↦ search rules
+      | in_default-via-else-verb-lt4+else-verb-lt5+then-verb-lt6+in-99+in-108+in_default-1 w ↦ search rules
+      | in_default-via-else-verb-lt4+else-verb-lt5+then-verb-lt6+in-99+in_default-1 w ↦ search rules
+      | in_default-via-else-verb-lt4+else-verb-lt5+then-verb-lt6+in_default-1 w ↦ search rules
+      | in_default-via-else-verb-lt4+else-verb-lt5+else-verb-lt6+then-verb-lt7 w ↦ search rules
+      | in_default-via-else-verb-lt4+else-verb-lt5+else-verb-lt6+else-verb-lt7+then-verb-lt8+in-108+in-105+in-116+in-101+in-114+in-97+in_default-1 w ↦ search rules
+      | in_default-via-else-verb-lt4+else-verb-lt5+else-verb-lt6+else-verb-lt7+then-verb-lt8+in-108+in-105+in-116+in-101+in-114+in_default-1 w ↦ search rules
+      | in_default-via-else-verb-lt4+else-verb-lt5+else-verb-lt6+else-verb-lt7+then-verb-lt8+in-108+in-105+in-116+in-101+in_default-1 w ↦ search rules
+      | in_default-via-else-verb-lt4+else-verb-lt5+else-verb-lt6+else-verb-lt7+then-verb-lt8+in-108+in-105+in-116+in_default-1 w ↦ search rules
+      | in_default-via-else-verb-lt4+else-verb-lt5+else-verb-lt6+else-verb-lt7+then-verb-lt8+in-108+in-105+in_default-1 w ↦ search rules
+      | in_default-via-else-verb-lt4+else-verb-lt5+else-verb-lt6+else-verb-lt7+then-verb-lt8+in-108+in_default-1 w ↦ search rules
+      | in_default-via-else-verb-lt4+else-verb-lt5+else-verb-lt6+else-verb-lt7+then-verb-lt8+in_default-1 w ↦ search rules
+      | in_default-via-else-verb-lt4+else-verb-lt5+else-verb-lt6+else-verb-lt7+else-verb-lt8 w ↦ search rules
+    ]

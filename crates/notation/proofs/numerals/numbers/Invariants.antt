@@ -1,9 +1,8 @@
 use Rattle.std.proofs.Common.{◌≡◌, ◌-◌, length, take}
-use Rattle.std.specs.Option.{option_map}
-use Rattle.notation.specs.Numerals.{numbers_of}
+use Rattle.notation.specs.Numerals.{numbers_in}
 use Rattle.notation.proofs.Counts.{joined}
 use Rattle.notation.proofs.numerals.numbers.Given as goal
 
 -- The numbers so far, in front of those that are left, are all.
-abbrev pub invariant-loop-at : goal.invariant-loop-at
-invariant-loop-at g l = (joined (take l.at l.found) (numbers_of (g.row.N - l.at) l.separator (option_map (λ x. x.now) l.left)) ≡ numbers_of g.row.N l.separator (option_map (λ x. x.now) l.text)) × (length l.found ≡ g.row.N)
+abbrev pub invariant-loop-place : goal.invariant-loop-place
+invariant-loop-place g l = (joined (take l.place-index l.place-items) (numbers_in (g.row.N - l.place-index) l.parts) ≡ numbers_in g.row.N l.initial.parts) × (length l.place-items ≡ g.row.N)
