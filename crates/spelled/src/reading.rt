@@ -87,7 +87,7 @@ impl Reader {
             }
             SheetToken::Mark { character, spacing } => Ok(Call::Mark {
                 character,
-                spacing: u32::from(spacing.number()),
+                spacing: spacing as u32,
                 stamp,
             }),
             SheetToken::Open(delimiter) => {
@@ -96,7 +96,7 @@ impl Reader {
                     delimiter,
                 })?;
                 Ok(Call::Open {
-                    delimiter: u32::from(delimiter.number()),
+                    delimiter: delimiter as u32,
                     whole: 4 * at + 4,
                     opening: 4 * at + 2,
                 })
