@@ -4,7 +4,7 @@ use Rattle.std.proofs.lemmas.List.{take_all, with_items_is}
 use Rattle.std.specs.Vec.{with_items}
 use Rattle.sheet.specs.Trees.{Trees, nil, name, mark, literal, group, size}
 use Rattle.sheet.specs.Entries.{End, entries}
-use Rattle.table.specs.Opening.{Means, AcceptsMeaning}
+use Rattle.table.specs.Opening.{Means, AcceptsMeaning, parts_of}
 use Rattle.table.specs.Slots.{listed}
 use Rattle.table.specs.declared.parts.Parts.{Parts}
 use Rattle.table.specs.declared.slot.Slot.{Slot}
@@ -76,6 +76,6 @@ told_in a b a' b' v es fs calls ea eb len long accepted is =
     subst (λ (l : List Slot). ToldBy a b l calls) (sym (with_items_is v fs (m ∙ len))) u
 
 -- What means a sheet opens as that sheet.
-pub opened : (p : Parts) (t : Table) (calls : List Call) → ToldBy (vec_items p.sheet) (vec_items p.template) (vec_items p.entries) calls → AcceptsMeaning p (Ok t) → t.parts ≡ p → WholeSheet (vec_items p.sheet) (vec_items p.template) calls (Ok t)
+pub opened : (p : Parts) (t : Table) (calls : List Call) → ToldBy (vec_items p.sheet) (vec_items p.template) (vec_items p.entries) calls → AcceptsMeaning p (Ok t) → parts_of t ≡ p → WholeSheet (vec_items p.sheet) (vec_items p.template) calls (Ok t)
 opened p t calls told accepts is =
     (ap (λ (q : Parts). vec_items q.sheet) is, ap (λ (q : Parts). vec_items q.template) is, subst (λ (u : Trees ℕ). Tells (vec_items p.sheet) (vec_items p.template) u calls) (sym (accepts told.told told.means)) told.tells)
