@@ -8,10 +8,10 @@ use crate::fault::SpelledFault;
 use bstr::Split;
 use filling::Call;
 use notation::{SheetToken, token};
+use rules::MOST;
 use sheet::Delimiter;
 use std::alloc::Global;
 use table::{LONGEST, TextPlace};
-use rules::MOST;
 
 /// A group that is open: what its closing bracket has to be, and the stamp that it will have.
 #[derive(Clone, Copy)]

@@ -7,9 +7,9 @@ ghost use Rattle.spelled.specs.Whole.{WholeSheet};
 
 use crate::fault::WholeFault;
 use filling::{Call, FillFault, Filling};
+use rules::MOST;
 use std::alloc::Global;
 use table::{Parts, Slot, Table, Texts};
-use rules::MOST;
 
 /// Puts the calls and then `seal` to a new filling, up to the first that is refused.
 fn put_all(table: &mut [Slot], texts: Texts<'_>, calls: &[Call]) -> Result<(), FillFault>

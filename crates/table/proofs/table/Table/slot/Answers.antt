@@ -11,5 +11,5 @@ returns c =
     let t = c.args.self.now in
     let same = c.entries.ensures in
     let read =
-        ap (λ p. found p.sheet.items p.template.items c.slot.result) (sym same) ∙ c.slot.ensures ∙ ap (λ p. at (parts_listed p) c.args.at) same in
+    ap (λ p. found p.sheet.items p.template.items c.slot.result) (sym same) ∙ c.slot.ensures ∙ ap (λ p. at (parts_listed p) c.args.at) same in
     record { is = there (parts_listed (parts_of t)) c.args.at _ t.parts.lawful read; small = slot_small t c.args.at c.slot.result read }
