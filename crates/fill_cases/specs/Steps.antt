@@ -6,6 +6,8 @@ use Rattle.packed.specs.declared.packed.Packed.{Packed}
 use Rattle.table.specs.Opening.{Opens as OpensParts, sheet_of as table_sheet}
 use Rattle.table.specs.declared.parts.Parts.{Parts}
 use Rattle.table.specs.declared.table.Table.{Table}
+use Rattle.sheet.specs.Trees.{Trees}
+use Rattle.sheet.specs.declared.fault.Refused.{Refused}
 use Rattle.inside.specs.Opening.{OpensInside, GoesInside}
 use Rattle.inside.specs.declared.inside.Inside.{Inside}
 use Rattle.inside.specs.declared.inside.NoGroup.{NoGroup as NoGroupThere}
@@ -13,19 +15,23 @@ use Rattle.filling.specs.Filling.{fill}
 use Rattle.filling.specs.Progress.{start}
 use Rattle.filling.specs.declared.call.Call.{Call}
 use Rattle.filling.specs.declared.fault.FillFault.{FillFault}
-use Rattle.notation.specs.Calls.{call_of_lem}
+use Rattle.notation.specs.Calls.{call_of}
 use Rattle.notation.specs.Numerals.{numbers_of}
 use Rattle.notation.specs.Parts.{front, behind, parts_left}
 use Rattle.lines.specs.Beginnings.{Given, slots_given, filling_given, parts_said}
-use Rattle.lines.specs.Digits.{hex_bytes}
+use Rattle.case_text.specs.Digits.{hex_bytes}
+use Rattle.case_text.specs.declared.fault.LineFault.{LineFault}
+use Rattle.case_text.specs.declared.fault.LineFault.TheVariants.{Unknown as NotKnownLine, Memory as NoMemory}
 use Rattle.spelled.specs.Spelling.{SpellsOut}
 use Rattle.spelled.specs.declared.fault.SpelledFault.{SpelledFault}
 use Rattle.spelled.specs.declared.fault.SpelledFault.TheVariants.{NotASheet, Lawless, Memory}
-use Rattle.fill_cases.specs.Verbs.{verb_of_lem, only}
+use Rattle.fill_cases.specs.Verbs.{verb_of, only}
 use Rattle.fill_cases.specs.declared.answer.Answer.{Answer}
 use Rattle.fill_cases.specs.declared.answer.Answer.TheVariants.{Ok as SaidOk, Wrote, NotOpened, NotFilled, NoGroup, Entries, Silent, Closed, Unknown}
 use Rattle.fill_cases.specs.declared.case.Case.{Case}
-use Rattle.fill_cases.specs.declared.case.Case.TheVariants.{Fresh as FreshCase, Packed as PackedCase, InPacked as InPackedCase, Table as TableCase, InTable as InTableCase, Filling as FillingCase, Closed as ClosedCase, Unknown as UnknownCase}
+use Rattle.fill_cases.specs.declared.case.Opened.{Opened}
+use Rattle.fill_cases.specs.declared.case.Opened.TheVariants.{Whole, Inside as Within}
+use Rattle.fill_cases.specs.declared.case.Case.TheVariants.{Fresh as FreshCase, Packed as PackedCase, Table as TableCase, Filling as FillingCase, Closed as ClosedCase, Unknown as UnknownCase}
 use Rattle.fill_cases.specs.declared.verb.Verb.{Verb}
 use Rattle.fill_cases.specs.declared.verb.Verb.TheVariants.{Packed as VPacked, Slots as VSlots, Sheet as VSheet, Filling as VFilling, Inside as VInside, Table as VTable, Cut as VCut, Read as VRead, Other as VOther}
 use Rattle.fill_cases.specs.declared.work.Work.{Work}
@@ -36,7 +42,7 @@ Is c a d b = (d ≡ c) × (b ≡ a)
 
 -- The store that was opened, or the reason why it was not.
 abbrev pub packed_opened : Result Packed (Refused (Vec ℕ Global)) → Case
-packed_opened (Ok s) = PackedCase s
+packed_opened (Ok s) = PackedCase (Whole s)
 packed_opened (Err e) = ClosedCase
 
 abbrev pub packed_said : Result Packed (Refused (Vec ℕ Global)) → Answer
@@ -47,7 +53,7 @@ abbrev pub OpensPacked : Vec ℕ Global → Case → Answer → Type 0
 OpensPacked v d b = (r : Result Packed (Refused (Vec ℕ Global))) × OpensBytes v r × Is (packed_opened r) (packed_said r) d b
 
 abbrev pub table_opened : Result Table (Refused Parts) → Case
-table_opened (Ok s) = TableCase s
+table_opened (Ok s) = TableCase (Whole s)
 table_opened (Err e) = ClosedCase
 
 abbrev pub table_said : Result Table (Refused Parts) → Answer
@@ -79,7 +85,7 @@ BeginsFilling (Some g) d b = (w : Work) × (g ≡ parts_said w.parts) × (w.fill
 -- A sheet that is spelled out and keeps the limits is a store; one that breaks them is a refused store. Neither is answered. Words that spell
 -- no sheet are no question.
 abbrev pub SpelledAs : Result Table SpelledFault → Case → Answer → Type 0
-SpelledAs (Ok t) d b = Is (TableCase t) Silent d b
+SpelledAs (Ok t) d b = Is (TableCase (Whole t)) Silent d b
 SpelledAs (Err NotASheet) d b = NotKnown UnknownCase d b
 SpelledAs (Err Lawless) d b = Is ClosedCase Silent d b
 SpelledAs (Err Memory) d b = ⊥
@@ -103,27 +109,30 @@ Begins VCut rest d b = NotKnown UnknownCase d b
 Begins VRead rest d b = NotKnown UnknownCase d b
 Begins VOther rest d b = NotKnown UnknownCase d b
 
+-- A first line that is read so, up to the memory that it takes.
+abbrev pub BeginsOrNot : Verb → Option (List ℕ) → Result (Case × Answer) LineFault → Type 0
+BeginsOrNot verb rest (Ok p) = Begins verb rest p.0 p.1
+BeginsOrNot verb rest (Err NotKnownLine) = Begins verb rest UnknownCase Unknown
+BeginsOrNot verb rest (Err NoMemory) = Unit {0}
+
+abbrev pub BeginsSheetOrNot : List (List ℕ) → Result (Case × Answer) LineFault → Type 0
+BeginsSheetOrNot ws (Ok p) = BeginsSheet ws p.0 p.1
+BeginsSheetOrNot ws (Err NotKnownLine) = BeginsSheet ws UnknownCase Unknown
+BeginsSheetOrNot ws (Err NoMemory) = Unit {0}
+
 -- Into a group of the store. Where no group stands, the case goes on with the store as it was.
 
 abbrev pub entered_said : {A E : Type 0} → Result A E → Answer
 entered_said (Ok v) = SaidOk
 entered_said (Err e) = NoGroup
 
-abbrev pub packed_entered : Result (Inside Packed) (NoGroupThere Packed) → Case
-packed_entered (Ok v) = InPackedCase v
-packed_entered (Err e) = PackedCase e.below
+abbrev pub whole_entered : {S : Type 0} → Result (Inside S) (NoGroupThere S) → Opened S
+whole_entered (Ok v) = Within v
+whole_entered (Err e) = Whole e.below
 
-abbrev pub in_packed_entered : Result (Inside Packed) (NoGroupThere (Inside Packed)) → Case
-in_packed_entered (Ok v) = InPackedCase v
-in_packed_entered (Err e) = InPackedCase e.below
-
-abbrev pub table_entered : Result (Inside Table) (NoGroupThere Table) → Case
-table_entered (Ok v) = InTableCase v
-table_entered (Err e) = TableCase e.below
-
-abbrev pub in_table_entered : Result (Inside Table) (NoGroupThere (Inside Table)) → Case
-in_table_entered (Ok v) = InTableCase v
-in_table_entered (Err e) = InTableCase e.below
+abbrev pub inside_entered : {S : Type 0} → Result (Inside S) (NoGroupThere (Inside S)) → Opened S
+inside_entered (Ok v) = Within v
+inside_entered (Err e) = Within e.below
 
 -- `inside P` asks for a place.
 abbrev pub place_asked : Verb → Option (List ℕ) → Option ℕ
@@ -138,23 +147,19 @@ place_asked VRead rest = None
 place_asked VOther rest = None
 
 abbrev pub inside_asked : List ℕ → Option ℕ
-inside_asked q = place_asked (verb_of_lem (front 32 q)) (behind 32 q)
+inside_asked q = place_asked (verb_of (front 32 q)) (behind 32 q)
 
-abbrev pub StepsPacked : Packed → Option ℕ → Case → Answer → Type 0
-StepsPacked s None d b = NotKnown (PackedCase s) d b
-StepsPacked s (Some p) d b = (r : Result (Inside Packed) (NoGroupThere Packed)) × OpensInside packed_sheet s p r × Is (packed_entered r) (entered_said r) d b
+-- From a store to another, by the sheet that a store has.
+abbrev pub StepsStore : {S St : Type 0} → (S → Trees St) → Opened S → Option ℕ → Opened S → Answer → Type 0
+StepsStore sheet o None p b = (p ≡ o) × (b ≡ Unknown)
+StepsStore {S} sheet (Whole s) (Some k) p b = (r : Result (Inside S) (NoGroupThere S)) × OpensInside sheet s k r × (p ≡ whole_entered r) × (b ≡ entered_said r)
+StepsStore {S} sheet (Within v) (Some k) p b = (r : Result (Inside S) (NoGroupThere (Inside S))) × GoesInside sheet v k r × (p ≡ inside_entered r) × (b ≡ entered_said r)
 
-abbrev pub StepsInPacked : Inside Packed → Option ℕ → Case → Answer → Type 0
-StepsInPacked s None d b = NotKnown (InPackedCase s) d b
-StepsInPacked s (Some p) d b = (r : Result (Inside Packed) (NoGroupThere (Inside Packed))) × GoesInside packed_sheet s p r × Is (in_packed_entered r) (entered_said r) d b
+abbrev pub StepsPacked : Opened Packed → Option ℕ → Case → Answer → Type 0
+StepsPacked o place d b = (p : Opened Packed) × (d ≡ PackedCase p) × StepsStore packed_sheet o place p b
 
-abbrev pub StepsTable : Table → Option ℕ → Case → Answer → Type 0
-StepsTable s None d b = NotKnown (TableCase s) d b
-StepsTable s (Some p) d b = (r : Result (Inside Table) (NoGroupThere Table)) × OpensInside table_sheet s p r × Is (table_entered r) (entered_said r) d b
-
-abbrev pub StepsInTable : Inside Table → Option ℕ → Case → Answer → Type 0
-StepsInTable s None d b = NotKnown (InTableCase s) d b
-StepsInTable s (Some p) d b = (r : Result (Inside Table) (NoGroupThere (Inside Table))) × GoesInside table_sheet s p r × Is (in_table_entered r) (entered_said r) d b
+abbrev pub StepsTable : Opened Table → Option ℕ → Case → Answer → Type 0
+StepsTable o place d b = (p : Opened Table) × (d ≡ TableCase p) × StepsStore table_sheet o place p b
 
 -- The questions of a filling.
 pub data FillQuestionSaid : Type 0 where
@@ -189,7 +194,7 @@ fill_asked_by VRead rest c = alone read rest
 fill_asked_by VOther rest c = of_call c
 
 abbrev pub fill_asked : List ℕ → FillQuestionSaid
-fill_asked q = fill_asked_by (verb_of_lem (front 32 q)) (behind 32 q) (call_of_lem q)
+fill_asked q = fill_asked_by (verb_of (front 32 q)) (behind 32 q) (call_of q)
 
 abbrev pub fill_said : Result ℕ FillFault → Answer
 fill_said (Ok p) = Wrote p
@@ -219,11 +224,9 @@ StepsFilling w no_question d b = NotKnown (FillingCase w) d b
 
 -- A question in a case is answered so, and leads to this case. A refused store stays refused.
 abbrev pub Steps : Case → List ℕ → Case → Answer → Type 0
-Steps FreshCase q d b = Begins (verb_of_lem (front 32 q)) (behind 32 q) d b
+Steps FreshCase q d b = Begins (verb_of (front 32 q)) (behind 32 q) d b
 Steps (PackedCase s) q d b = StepsPacked s (inside_asked q) d b
-Steps (InPackedCase s) q d b = StepsInPacked s (inside_asked q) d b
 Steps (TableCase s) q d b = StepsTable s (inside_asked q) d b
-Steps (InTableCase s) q d b = StepsInTable s (inside_asked q) d b
 Steps (FillingCase w) q d b = StepsFilling w (fill_asked q) d b
 Steps ClosedCase q d b = Is ClosedCase Closed d b
 Steps UnknownCase q d b = Is UnknownCase Unknown d b

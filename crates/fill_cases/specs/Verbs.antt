@@ -4,8 +4,8 @@ use Rattle.std.specs.Str.{bytes_eq}
 use Rattle.fill_cases.specs.declared.verb.Verb.{Verb}
 use Rattle.fill_cases.specs.declared.verb.Verb.TheVariants.{Packed, Slots, Sheet, Filling, Inside, Table, Cut, Read, Other}
 
-abbrev pub verb_of_lem : List ℕ → Verb
-verb_of_lem word =
+abbrev pub verb_of : List ℕ → Verb
+verb_of word =
     cond (bytes_eq word (codes "packed")) Packed
     (cond (bytes_eq word (codes "slots")) Slots
     (cond (bytes_eq word (codes "sheet")) Sheet

@@ -1,82 +1,60 @@
 //! The first line of a case.
-ghost use Rattle.std.specs.Option.{option_map};
 ghost use Rattle.std.specs.Prelude.{IfOk};
-ghost use Rattle.notation.specs.Parts.{front, behind, parts_left};
-ghost use Rattle.lines.specs.Beginnings.{slots_given, filling_given};
-ghost use Rattle.fill_cases.specs.Steps.{bytes_given, Begins, BeginsPacked, BeginsTable, BeginsFilling, BeginsSheet};
-ghost use Rattle.fill_cases.specs.Verbs.{verb_of_lem};
+ghost use Rattle.notation.specs.Parts.{front, behind};
+ghost use Rattle.fill_cases.specs.Steps.{Begins, BeginsOrNot, BeginsSheetOrNot};
+ghost use Rattle.fill_cases.specs.Verbs.{verb_of};
 
 use crate::answer::Answer;
-use crate::case::Case;
+use crate::case::{Case, Opened};
 use crate::opened::{open_packed, open_table};
 use crate::verb::{Verb, asked};
 use crate::work::Work;
+use bstr::Split;
 use filling::Filling;
 use lines::{LineFault, from_hex, parts_of_filling, parts_of_slots};
+use notation::first_part;
 use spelled::{SpelledFault, spelled};
 use std::alloc::{AllocError, Global};
 
 /// The first line of a case makes its store.
 pub(crate) fn begun(heap: Global, question: &[u8]) -> Result<(Case, Answer), AllocError>
-    ensures { IfOk result (λ p. Begins (verb_of_lem (front 32 question.now)) (behind 32 question.now) p.0 p.1) }
+    ensures { IfOk result (λ p. Begins (verb_of (front 32 question.now)) (behind 32 question.now) p.0 p.1) }
 {
-    match asked(question) {
-        (Verb::Packed, rest) => packed(heap, rest),
-        (Verb::Slots, rest) => slots(heap, rest),
-        (Verb::Sheet, rest) => sheet(heap, rest),
-        (Verb::Filling, rest) => filling(heap, rest),
-        _ => Ok((Case::Unknown, Answer::Unknown)),
-    }
-}
-
-fn packed(heap: Global, rest: Option<&[u8]>) -> Result<(Case, Answer), AllocError>
-    ensures { IfOk result (λ p. BeginsPacked (bytes_given (option_map (λ x. x.now) rest.entry)) p.0 p.1) }
-{
-    let Some(text) = rest else {
-        return Ok((Case::Unknown, Answer::Unknown));
-    };
-    match from_hex(heap, text) {
-        Ok(bytes) => Ok(open_packed(bytes)),
+    match begin(heap, question) {
+        Ok(begun) => Ok(begun),
         Err(LineFault::Unknown) => Ok((Case::Unknown, Answer::Unknown)),
         Err(LineFault::Memory) => Err(AllocError),
     }
 }
 
-fn slots(heap: Global, rest: Option<&[u8]>) -> Result<(Case, Answer), AllocError>
-    ensures { IfOk result (λ p. BeginsTable (slots_given (parts_left 32 (option_map (λ x. x.now) rest.entry))) p.0 p.1) }
+fn begin(heap: Global, question: &[u8]) -> Result<(Case, Answer), LineFault>
+    ensures { BeginsOrNot (verb_of (front 32 question.now)) (behind 32 question.now) result }
 {
-    match parts_of_slots(heap, rest) {
-        Ok(parts) => Ok(open_table(parts)),
-        Err(LineFault::Unknown) => Ok((Case::Unknown, Answer::Unknown)),
-        Err(LineFault::Memory) => Err(AllocError),
-    }
-}
-
-fn filling(heap: Global, rest: Option<&[u8]>) -> Result<(Case, Answer), AllocError>
-    ensures { IfOk result (λ p. BeginsFilling (filling_given (parts_left 32 (option_map (λ x. x.now) rest.entry))) p.0 p.1) }
-{
-    match parts_of_filling(heap, rest) {
-        Ok(parts) => {
-            let work = Work {
-                filling: Filling::new(),
-                parts,
-            };
-            Ok((Case::Filling(work), Answer::Silent))
+    let (verb, words) = asked(question);
+    match verb {
+        Verb::Packed => {
+            let (_, rest) = first_part(question, b' ');
+            let bytes = from_hex(heap, rest.ok_or(LineFault::Unknown)?)?;
+            Ok(open_packed(bytes))
         }
-        Err(LineFault::Unknown) => Ok((Case::Unknown, Answer::Unknown)),
-        Err(LineFault::Memory) => Err(AllocError),
+        Verb::Slots => Ok(open_table(parts_of_slots(heap, words)?)),
+        Verb::Sheet => sheet(heap, words),
+        Verb::Filling => {
+            let parts = parts_of_filling(heap, words)?;
+            let filling = Filling::new();
+            Ok((Case::Filling(Work { filling, parts }), Answer::Silent))
+        }
+        _ => Err(LineFault::Unknown),
     }
 }
 
-fn sheet(heap: Global, rest: Option<&[u8]>) -> Result<(Case, Answer), AllocError>
-    ensures { IfOk result (λ p. BeginsSheet (parts_left 32 (option_map (λ x. x.now) rest.entry)) p.0 p.1) }
+fn sheet(heap: Global, words: Split<'_, '_>) -> Result<(Case, Answer), LineFault>
+    ensures { BeginsSheetOrNot words.entry result }
 {
-    match spelled(heap, rest) {
-        Ok(store) => Ok((Case::Table(store), Answer::Silent)),
-        Err(fault) => match fault {
-            SpelledFault::NotASheet => Ok((Case::Unknown, Answer::Unknown)),
-            SpelledFault::Lawless => Ok((Case::Closed, Answer::Silent)),
-            SpelledFault::Memory => Err(AllocError),
-        },
+    match spelled(heap, words) {
+        Ok(store) => Ok((Case::Table(Opened::Whole(store)), Answer::Silent)),
+        Err(SpelledFault::NotASheet) => Err(LineFault::Unknown),
+        Err(SpelledFault::Lawless) => Ok((Case::Closed, Answer::Silent)),
+        Err(SpelledFault::Memory) => Err(LineFault::Memory),
     }
 }

@@ -4,19 +4,22 @@ use inside::Inside;
 use packed::Packed;
 use table::Table;
 
+/// A store that was opened, or the contents of a group of it.
+#[derive(Drop)]
+pub enum Opened<S> {
+    Whole(S),
+    Inside(Inside<S>),
+}
+
 /// How far a case has come.
 #[derive(Drop)]
 pub enum Case {
     /// No line of it was read: the first one makes its store.
     Fresh,
     /// A packed sheet was opened.
-    Packed(Packed),
-    /// The contents of a group of a packed sheet.
-    InPacked(Inside<Packed>),
+    Packed(Opened<Packed>),
     /// A table was opened.
-    Table(Table),
-    /// The contents of a group of a table.
-    InTable(Inside<Table>),
+    Table(Opened<Table>),
     /// A table is being filled.
     Filling(Work),
     /// The store was refused.

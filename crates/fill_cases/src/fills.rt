@@ -1,7 +1,6 @@
 //! The questions of a filling.
 ghost use Rattle.std.specs.Prelude.{◌≡◌};
-ghost use Rattle.std.specs.Option.{option_map};
-ghost use Rattle.notation.specs.Numerals.{numbers_of};
+ghost use Rattle.notation.specs.Numerals.{numbers_in};
 ghost use Rattle.fill_cases.specs.Steps.{StepsFilling, Put, fill_asked};
 ghost use Rattle.fill_cases.specs.Fills.{fill_question_said};
 ghost use Rattle.fill_cases.specs.Verbs.{only};
@@ -11,6 +10,7 @@ use crate::case::Case;
 use crate::opened::open_table;
 use crate::verb::{Verb, asked};
 use crate::work::Work;
+use bstr::Split;
 use filling::Call;
 use notation::{call, numbers};
 use table::Texts;
@@ -22,32 +22,26 @@ pub enum FillQuestion {
     Show,
     Cut(u32),
     Read,
-    Unknown,
 }
 
 /// The only number behind a word.
-pub(crate) fn one_number(rest: Option<&[u8]>) -> Option<u32>
-    ensures { result ≡ only (numbers_of 1 32 (option_map (λ x. x.now) rest.entry)) }
+pub(crate) fn one_number(rest: Split<'_, '_>) -> Option<u32>
+    ensures { result ≡ only (numbers_in 1 rest.entry) }
 {
-    let [number] = numbers::<1>(rest, b' ')?;
+    let [number] = numbers::<1>(rest)?;
     Some(number)
 }
 
-fn fill_question(question: &[u8]) -> FillQuestion
+fn fill_question(question: &[u8]) -> Option<FillQuestion>
     ensures { fill_question_said result ≡ fill_asked question.now }
 {
-    match asked(question) {
-        (Verb::Table, None) => FillQuestion::Show,
-        (Verb::Read, None) => FillQuestion::Read,
-        (Verb::Cut, rest) => match one_number(rest) {
-            Some(number) => FillQuestion::Cut(number),
-            None => FillQuestion::Unknown,
-        },
-        (Verb::Other, _) => match call(question) {
-            Some(call) => FillQuestion::Call(call),
-            None => FillQuestion::Unknown,
-        },
-        _ => FillQuestion::Unknown,
+    let (verb, mut rest) = asked(question);
+    match verb {
+        Verb::Table => rest.next().is_none().then_some(FillQuestion::Show),
+        Verb::Read => rest.next().is_none().then_some(FillQuestion::Read),
+        Verb::Cut => Some(FillQuestion::Cut(one_number(rest)?)),
+        Verb::Other => Some(FillQuestion::Call(call(question)?)),
+        _ => None,
     }
 }
 
@@ -57,21 +51,21 @@ pub(crate) fn fill_step(work: Work, question: &[u8]) -> (Case, Answer)
 {
     let mut work = work;
     match fill_question(question) {
-        FillQuestion::Call(call) => {
+        Some(FillQuestion::Call(call)) => {
             let answer = put(&mut work, call);
             (Case::Filling(work), answer)
         }
-        FillQuestion::Show => (Case::Filling(work), Answer::Entries),
-        FillQuestion::Cut(count) => {
+        Some(FillQuestion::Show) => (Case::Filling(work), Answer::Entries),
+        Some(FillQuestion::Cut(count)) => {
             work.parts.entries.truncate(count as usize);
             (Case::Filling(work), Answer::Silent)
         }
-        FillQuestion::Read => {
+        Some(FillQuestion::Read) => {
             let Work { filling, mut parts } = work;
             parts.entries.truncate(filling.written());
             open_table(parts)
         }
-        FillQuestion::Unknown => (Case::Filling(work), Answer::Unknown),
+        None => (Case::Filling(work), Answer::Unknown),
     }
 }
 

@@ -2,16 +2,18 @@
 ghost use Rattle.fill_cases.specs.Steps.{OpensPacked, OpensTable};
 
 use crate::answer::Answer;
-use crate::case::Case;
+use crate::case::{Case, Opened};
 use packed::Packed;
 use table::{Parts, Table};
+
+// Two functions, since the two stores have no trait by which both are opened.
 
 /// Opens bytes as a packed sheet.
 pub(crate) fn open_packed(bytes: Vec<u8>) -> (Case, Answer)
     ensures { OpensPacked bytes result.0 result.1 }
 {
     match Packed::open(bytes) {
-        Ok(store) => (Case::Packed(store), Answer::Ok),
+        Ok(store) => (Case::Packed(Opened::Whole(store)), Answer::Ok),
         Err(refused) => (Case::Closed, Answer::NotOpened(refused.fault)),
     }
 }
@@ -21,7 +23,7 @@ pub(crate) fn open_table(parts: Parts) -> (Case, Answer)
     ensures { OpensTable parts result.0 result.1 }
 {
     match Table::open(parts) {
-        Ok(store) => (Case::Table(store), Answer::Ok),
+        Ok(store) => (Case::Table(Opened::Whole(store)), Answer::Ok),
         Err(refused) => (Case::Closed, Answer::NotOpened(refused.fault)),
     }
 }

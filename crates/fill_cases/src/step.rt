@@ -1,16 +1,15 @@
 //! The questions of a case behind its first line.
 ghost use Rattle.std.specs.Prelude.{◌≡◌, IfOk};
-ghost use Rattle.fill_cases.specs.Steps.{Steps, StepsPacked, StepsInPacked, StepsTable, StepsInTable, inside_asked};
+ghost use Rattle.fill_cases.specs.Steps.{Steps, StepsStore, inside_asked};
 
 use crate::answer::Answer;
 use crate::begun::begun;
-use crate::case::Case;
+use crate::case::{Case, Opened};
 use crate::fills::{fill_step, one_number};
 use crate::verb::{Verb, asked};
 use inside::Inside;
-use packed::Packed;
+use sheet::Store;
 use std::alloc::{AllocError, Global};
-use table::Table;
 
 impl Case {
     /// Takes the next question, and gives its answer and the case after it.
@@ -19,10 +18,14 @@ impl Case {
     {
         match self {
             Case::Fresh => begun(heap, question),
-            Case::Packed(store) => Ok(packed_step(store, question)),
-            Case::InPacked(store) => Ok(in_packed_step(store, question)),
-            Case::Table(store) => Ok(table_step(store, question)),
-            Case::InTable(store) => Ok(in_table_step(store, question)),
+            Case::Packed(store) => {
+                let (store, answer) = store.step(inside_place(question));
+                Ok((Case::Packed(store), answer))
+            }
+            Case::Table(store) => {
+                let (store, answer) = store.step(inside_place(question));
+                Ok((Case::Table(store), answer))
+            }
             Case::Filling(work) => Ok(fill_step(work, question)),
             Case::Closed => Ok((Case::Closed, Answer::Closed)),
             Case::Unknown => Ok((Case::Unknown, Answer::Unknown)),
@@ -40,50 +43,23 @@ fn inside_place(question: &[u8]) -> Option<u32>
     }
 }
 
-fn packed_step(store: Packed, question: &[u8]) -> (Case, Answer)
-    ensures { StepsPacked store (inside_asked question.now) result.0 result.1 }
-{
-    match inside_place(question) {
-        None => (Case::Packed(store), Answer::Unknown),
-        Some(place) => match Inside::open(store, place as usize) {
-            Ok(inside) => (Case::InPacked(inside), Answer::Ok),
-            Err(refused) => (Case::Packed(refused.below), Answer::NoGroup),
-        },
-    }
-}
-
-fn in_packed_step(store: Inside<Packed>, question: &[u8]) -> (Case, Answer)
-    ensures { StepsInPacked store (inside_asked question.now) result.0 result.1 }
-{
-    match inside_place(question) {
-        None => (Case::InPacked(store), Answer::Unknown),
-        Some(place) => match store.inside(place as usize) {
-            Ok(inside) => (Case::InPacked(inside), Answer::Ok),
-            Err(refused) => (Case::InPacked(refused.below), Answer::NoGroup),
-        },
-    }
-}
-
-fn table_step(store: Table, question: &[u8]) -> (Case, Answer)
-    ensures { StepsTable store (inside_asked question.now) result.0 result.1 }
-{
-    match inside_place(question) {
-        None => (Case::Table(store), Answer::Unknown),
-        Some(place) => match Inside::open(store, place as usize) {
-            Ok(inside) => (Case::InTable(inside), Answer::Ok),
-            Err(refused) => (Case::Table(refused.below), Answer::NoGroup),
-        },
-    }
-}
-
-fn in_table_step(store: Inside<Table>, question: &[u8]) -> (Case, Answer)
-    ensures { StepsInTable store (inside_asked question.now) result.0 result.1 }
-{
-    match inside_place(question) {
-        None => (Case::InTable(store), Answer::Unknown),
-        Some(place) => match store.inside(place as usize) {
-            Ok(inside) => (Case::InTable(inside), Answer::Ok),
-            Err(refused) => (Case::InTable(refused.below), Answer::NoGroup),
-        },
+impl<S: Store + Drop> Opened<S> {
+    /// Goes into the group at the place that was asked for. Where none stands, the store stays as it was.
+    fn step(self, place: Option<u32>) -> (Opened<S>, Answer)
+        ensures { StepsStore S.Store.sheet self place result.0 result.1 }
+    {
+        let Some(place) = place else {
+            return (self, Answer::Unknown);
+        };
+        match self {
+            Opened::Whole(store) => match Inside::open(store, place as usize) {
+                Ok(inside) => (Opened::Inside(inside), Answer::Ok),
+                Err(refused) => (Opened::Whole(refused.below), Answer::NoGroup),
+            },
+            Opened::Inside(store) => match store.inside(place as usize) {
+                Ok(inside) => (Opened::Inside(inside), Answer::Ok),
+                Err(refused) => (Opened::Inside(refused.below), Answer::NoGroup),
+            },
+        }
     }
 }

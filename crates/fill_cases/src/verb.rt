@@ -1,13 +1,13 @@
 //! The first word of a question.
 ghost use Rattle.std.specs.Prelude.{◌≡◌};
-ghost use Rattle.std.specs.Option.{option_map};
-ghost use Rattle.notation.specs.Parts.{front, behind};
-ghost use Rattle.fill_cases.specs.Verbs.{verb_of_lem};
+ghost use Rattle.notation.specs.Parts.{front, behind, parts_left};
+ghost use Rattle.fill_cases.specs.Verbs.{verb_of};
 
-use notation::first_part;
+use bstr::Split;
+use notation::split_first;
 
 /// What a question asks for, by its first word.
-#[derive(Clone, Copy)]
+#[derive(Clone, Copy, PartialEq, Eq, Debug)]
 pub enum Verb {
     Packed,
     Slots,
@@ -21,35 +21,29 @@ pub enum Verb {
     Other,
 }
 
-/// What a question asks for, and what stands behind its first word.
-pub(crate) fn asked(question: &[u8]) -> (Verb, Option<&[u8]>)
-    ensures verb { result.0 ≡ verb_of_lem (front 32 question.now) }
-    ensures rest { option_map (λ x. x.now) result.1 ≡ behind 32 question.now }
-{
-    let (word, rest) = first_part(question, b' ');
-    (verb_of(word), rest)
+impl<'a> From<&'a [u8]> for Verb {
+    ghost from_gives = { λ word r. r ≡ verb_of word.now };
+
+    fn from(word: &'a [u8]) -> Verb {
+        match word {
+            b"packed" => Verb::Packed,
+            b"slots" => Verb::Slots,
+            b"sheet" => Verb::Sheet,
+            b"filling" => Verb::Filling,
+            b"inside" => Verb::Inside,
+            b"table" => Verb::Table,
+            b"cut" => Verb::Cut,
+            b"read" => Verb::Read,
+            _ => Verb::Other,
+        }
+    }
 }
 
-fn verb_of(word: &[u8]) -> Verb
-    ensures { result ≡ verb_of_lem word.now }
+/// What a question asks for, and the words behind its first.
+pub(crate) fn asked(question: &[u8]) -> (Verb, Split<'_, 'static>)
+    ensures verb { result.0 ≡ verb_of (front 32 question.now) }
+    ensures rest { result.1 ≡ parts_left 32 (behind 32 question.now) }
 {
-    if word == b"packed".as_slice() {
-        Verb::Packed
-    } else if word == b"slots".as_slice() {
-        Verb::Slots
-    } else if word == b"sheet".as_slice() {
-        Verb::Sheet
-    } else if word == b"filling".as_slice() {
-        Verb::Filling
-    } else if word == b"inside".as_slice() {
-        Verb::Inside
-    } else if word == b"table".as_slice() {
-        Verb::Table
-    } else if word == b"cut".as_slice() {
-        Verb::Cut
-    } else if word == b"read".as_slice() {
-        Verb::Read
-    } else {
-        Verb::Other
-    }
+    let (word, rest) = split_first(question, b" ");
+    (Verb::from(word), rest)
 }
