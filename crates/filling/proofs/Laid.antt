@@ -2,15 +2,7 @@
 use Rattle.std.proofs.Common.{◌≡◌, ℕ, suc, ◌+◌, List, [], ◌∷◌, ◌++◌, length, sym, refl, ap, ◌∙◌, append_assoc, arith, length-append}
 use Rattle.sheet.specs.Trees.{Trees, nil, name, mark, literal, group, size, then}
 use Rattle.sheet.specs.Entries.{Entry, Group, Name, Mark, Literal, End, flat}
-
-pub flat_append : {St : Type 0} (t : Trees St) (es : List (Entry St)) → flat t es ≡ flat t [] ++ es
-flat_append nil es = refl
-flat_append (name b s r) es = ap (λ l. Name b s ∷ l) (flat_append r es)
-flat_append (mark c k s r) es = ap (λ l. Mark c k s ∷ l) (flat_append r es)
-flat_append (literal b s r) es = ap (λ l. Literal b s ∷ l) (flat_append r es)
-flat_append {St} (group d w o c i r) es =
-    let e : Entry St = End (suc (size i)) in
-    rw (flat_append i (e ∷ flat r es), flat_append r es, flat_append i (e ∷ flat r []), append_assoc)
+use Rattle.sheet.proofs.Places.{flat_append, length_flat}
 
 pub flat_then : {St : Type 0} (t u : Trees St) (es : List (Entry St)) → flat (then t u) es ≡ flat t (flat u es)
 flat_then nil u es = refl
@@ -18,13 +10,6 @@ flat_then (name b s r) u es = ap (λ l. Name b s ∷ l) (flat_then r u es)
 flat_then (mark c k s r) u es = ap (λ l. Mark c k s ∷ l) (flat_then r u es)
 flat_then (literal b s r) u es = ap (λ l. Literal b s ∷ l) (flat_then r u es)
 flat_then (group d w o c i r) u es = ap (λ l. Group (suc (size i)) d w o c ∷ flat i (End (suc (size i)) ∷ l)) (flat_then r u es)
-
-pub length_flat : {St : Type 0} (t : Trees St) (es : List (Entry St)) → length (flat t es) ≡ size t + length es
-length_flat nil es = omega arith
-length_flat (name b s r) es = omega (arith, length_flat r es)
-length_flat (mark c k s r) es = omega (arith, length_flat r es)
-length_flat (literal b s r) es = omega (arith, length_flat r es)
-length_flat (group d w o c i r) es = omega (arith, length_flat i (End (suc (size i)) ∷ flat r es), length_flat r es)
 
 -- A group that is open: the trees before it in its level, its delimiter, and its whole and opening stamp.
 pub record Frame : Type 0 where
@@ -48,15 +33,15 @@ laid (f ∷ fs) t = laid fs f.before ++ begun f ∷ flat t []
 
 -- More trees of the innermost level stand behind all that is written.
 pub laid_then : (fs : List Frame) (t u : Trees ℕ) → laid fs (then t u) ≡ laid fs t ++ flat u []
-laid_then [] t u = flat_then t u [] ∙ flat_append t (flat u [])
+laid_then [] t u = flat_then t u [] ∙ flat_append t [] (flat u [])
 laid_then (f ∷ fs) t u =
-    ap (λ l. laid fs f.before ++ begun f ∷ l) (flat_then t u [] ∙ flat_append t (flat u [])) ∙ sym (append_assoc (laid fs f.before) (begun f ∷ flat t []) (flat u []))
+    ap (λ l. laid fs f.before ++ begun f ∷ l) (flat_then t u [] ∙ flat_append t [] (flat u [])) ∙ sym (append_assoc (laid fs f.before) (begun f ∷ flat t []) (flat u []))
 
 -- Closing the innermost group completes its Group where it stands, and adds its End.
 pub laid_closed : (f : Frame) (fs : List Frame) (c : ℕ) (t : Trees ℕ) → laid fs (then f.before (ended f c t)) ≡ (laid fs f.before ++ Group (suc (size t)) f.delimiter f.whole f.opening c ∷ flat t []) ++ End (suc (size t)) ∷ []
 laid_closed f fs c t =
     laid_then fs f.before (ended f c t)
-    ∙ ap (λ l. laid fs f.before ++ Group (suc (size t)) f.delimiter f.whole f.opening c ∷ l) (flat_append t (End (suc (size t)) ∷ []))
+    ∙ ap (λ l. laid fs f.before ++ Group (suc (size t)) f.delimiter f.whole f.opening c ∷ l) (flat_append t [] (End (suc (size t)) ∷ []))
     ∙ sym (append_assoc (laid fs f.before) (Group (suc (size t)) f.delimiter f.whole f.opening c ∷ flat t []) (End (suc (size t)) ∷ []))
 
 pub length_laid : (f : Frame) (fs : List Frame) (t : Trees ℕ) → length (laid (f ∷ fs) t) ≡ length (laid fs f.before) + suc (size t)

@@ -16,7 +16,7 @@ use Rattle.filling.specs.declared.call.Call.{Call}
 use Rattle.filling.specs.declared.call.Call.TheVariants.{Name, Mark, Literal, Open, Close, Seal}
 use Rattle.filling.specs.declared.call.State.{State}
 use Rattle.filling.specs.declared.call.State.TheVariants.{Open as IsOpen, Waiting as IsWaiting, Sealed as IsSealed}
-use Rattle.filling.proofs.Laid.{length_flat}
+use Rattle.sheet.proofs.Places.{length_flat}
 
 -- A state in which these trees may be told next.
 record Ready (s : State) (t : Trees ℕ) : Type 0 where

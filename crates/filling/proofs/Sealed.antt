@@ -18,7 +18,8 @@ use Rattle.filling.specs.declared.call.Call.{Call}
 use Rattle.filling.specs.declared.call.Call.TheVariants.{Name, Mark, Literal, Open, Close, Seal}
 use Rattle.filling.specs.declared.call.State.TheVariants.{Open as IsOpen}
 use Rattle.filling.proofs.Fits.{fit_open, fit_sound, name_fits, literal_fits, mark_fits}
-use Rattle.filling.proofs.Laid.{Frame, flat_append, length_flat, laid}
+use Rattle.sheet.proofs.Places.{flat_append, length_flat}
+use Rattle.filling.proofs.Laid.{Frame, laid}
 use Rattle.filling.proofs.Steps.{Placed, Stands, stands_first, one_more, how_many, with_leaf, with_open, with_close}
 
 -- A call after which the filling is not sealed brings a run on.
@@ -76,7 +77,7 @@ sealing a b es p cs k st =
       means =
           record {
             limits = record { sound = fit_sound t (fit_open p.state t free st.fit); shallow = omega (arith, st.shallow); few = omega arith };
-            flat = flat_append t (End 0 ∷ []) ∙ sym (ap (λ l. l ++ End 0 ∷ []) is) ∙ sym (one_more a b es w (SEnd 0) (omega arith)) ∙ ap (λ n. listed a b (take n (set es w (SEnd 0)))) size_is;
+            flat = flat_append t [] (End 0 ∷ []) ∙ sym (ap (λ l. l ++ End 0 ∷ []) is) ∙ sym (one_more a b es w (SEnd 0) (omega arith)) ∙ ap (λ n. listed a b (take n (set es w (SEnd 0)))) size_is;
           };
     }
 

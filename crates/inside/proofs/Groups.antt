@@ -7,7 +7,7 @@ use Rattle.sheet.specs.Limits.{Sound, KeepsLimits}
 use Rattle.sheet.specs.Questions.{kind_of, distance_of}
 use Rattle.sheet.specs.declared.kind.EntryKind.TheVariants.{Group as KGroup}
 use Rattle.sheet.proofs.Forms.{then_nil, levels_flat}
-use Rattle.sheet.proofs.Places.{drop_flat, at_past}
+use Rattle.sheet.proofs.Places.{drop_flat, at_past, length_flat, flat_append}
 use Rattle.inside.specs.Contents.{BeginsWithGroup, HoldsAt, HoldsOnly, behind_group, contents}
 
 -- A place before, at or behind a number of entries.
@@ -127,13 +127,6 @@ group_or_nothing (Nothing ∷ es) = inr refl
 group_around : {St : Type 0} (t : Trees St) (p : ℕ) → 0 < size (contents t p) → kind_of (at (entries t) p) ≡ KGroup
 group_around t p some = ⊎_elim (λ g. g) (λ none. absurd (omega (arith, ap size none))) (group_or_nothing (drop p (entries t)))
 
-length_flat : {St : Type 0} (t : Trees St) (es : List (Entry St)) → length (flat t es) ≡ size t + length es
-length_flat nil es = omega arith
-length_flat (name b s r) es = let e = length_flat r es in omega arith
-length_flat (mark c k s r) es = let e = length_flat r es in omega arith
-length_flat (literal b s r) es = let e = length_flat r es in omega arith
-length_flat (group d w o c i r) es = let e = length_flat i (End (suc (size i)) ∷ flat r es) in let f = length_flat r es in omega arith
-
 pub length_entries : {St : Type 0} (t : Trees St) → length (entries t) ≡ suc (size t)
 length_entries t = let e = length_flat t (End 0 ∷ []) in omega arith
 
@@ -160,14 +153,6 @@ limits_kept t p k =
     (group_or_nothing (drop p (entries t)))
 
 -- Among trees it does not matter what follows them.
-flat_append : {St : Type 0} (t : Trees St) (xs ys : List (Entry St)) → flat t (xs ++ ys) ≡ flat t xs ++ ys
-flat_append nil xs ys = refl
-flat_append (name b s r) xs ys = ap (λ l. Name b s ∷ l) (flat_append r xs ys)
-flat_append (mark c k s r) xs ys = ap (λ l. Mark c k s ∷ l) (flat_append r xs ys)
-flat_append (literal b s r) xs ys = ap (λ l. Literal b s ∷ l) (flat_append r xs ys)
-flat_append (group d w o c i r) xs ys =
-    ap (λ l. Group (suc (size i)) d w o c ∷ l) (ap (λ l. flat i (End (suc (size i)) ∷ l)) (flat_append r xs ys) ∙ flat_append i (End (suc (size i)) ∷ flat r xs) ys)
-
 at_append : {St : Type 0} (xs ys : List (Entry St)) (k : ℕ) → k < length xs → at (xs ++ ys) k ≡ at xs k
 at_append [] ys k l = absurd (omega arith)
 at_append (x ∷ xs) ys zero l = refl

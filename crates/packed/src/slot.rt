@@ -21,10 +21,7 @@ impl Slot {
         ensures { (bs : List ℕ) (k : ℕ) → found bs k result ≡ meant bs k kind value }
     {
         Some(match kind {
-            0 => Slot::Group(Delimiter::Invisible, value),
-            1 => Slot::Group(Delimiter::Parenthesis, value),
-            2 => Slot::Group(Delimiter::Brace, value),
-            3 => Slot::Group(Delimiter::Bracket, value),
+            0..=3 => Slot::Group(Delimiter::try_from(u32::from(kind)).ok()?, value),
             4 => Slot::Name(value),
             5 => Slot::Literal(value),
             6 => {

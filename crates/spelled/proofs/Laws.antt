@@ -8,7 +8,7 @@ use Rattle.table.specs.Texts.{text_at}
 use Rattle.filling.specs.Runs.{Tells}
 use Rattle.filling.specs.declared.call.Call.{Call}
 use Rattle.filling.specs.declared.call.Call.TheVariants.{Name, Mark, Literal, Open, Close, Seal}
-use Rattle.filling.proofs.Laid.{length_flat}
+use Rattle.sheet.proofs.Places.{length_flat}
 use Rattle.notation.specs.Tokens.{Piece, token_of, opening, closing, name as name_token, mark as mark_token, literal as literal_token}
 use Rattle.spelled.specs.Whole.{TellsNothing}
 use Rattle.spelled.specs.Reading.{OpenGroup, piece_text, word_text, texts_spelled, text_place, opened, Step, a_step, closing_step, step, word_step, in_front, then_on, at_the_end, calls_of, TooMuch}

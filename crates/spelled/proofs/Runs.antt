@@ -14,7 +14,7 @@ use Rattle.filling.specs.Progress.{Progress, start}
 use Rattle.filling.specs.Runs.{Accepted, table_after, Tells}
 use Rattle.filling.specs.declared.call.Call.{Call}
 use Rattle.filling.specs.declared.call.Call.TheVariants.{Close, Seal}
-use Rattle.filling.proofs.Laid.{length_flat}
+use Rattle.sheet.proofs.Places.{length_flat}
 use Rattle.filling.proofs.Sealed.{sealed_runs, length_entered}
 use Rattle.filling.proofs.Room.{never_too_early}
 use Rattle.spelled.specs.Whole.{TellsNothing, WholeSheet}
