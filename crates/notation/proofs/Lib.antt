@@ -2,5 +2,4 @@ pub mod Values
 pub mod Cuts
 pub mod Splits
 pub mod Counts
-pub mod Texts
 pub mod Backs
