@@ -14,6 +14,7 @@ pub enum LineFault {
     Memory,
 }
 
+// By hand: what a derive writes has no contract, and callers promise what becomes of want of memory.
 impl From<AllocError> for LineFault {
     ghost from_gives = { λ _ r. r ≡ Memory };
 

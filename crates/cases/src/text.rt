@@ -11,6 +11,7 @@ use case_text::{Replay, write_answered};
 use std::alloc::{AllocError, Global};
 
 /// A text of cases, written back with every answer worked out afresh.
+// A function of this crate beside the generic one, since its promise speaks of what these cases are answered.
 pub fn replayed(heap: Global, text: &[u8]) -> Result<Vec<u8>, AllocError>
     ensures { IfOk result (λ out. Replays FreshCase (lines text.now) out.items) }
 {

@@ -21,6 +21,7 @@ pub enum Answer {
     /// The entries of the table.
     Entries,
     /// The question has no answer by its nature.
+    // A case and no None, since one match on the answer says what is written behind a question.
     Silent,
     /// The store of the case was refused, so there is nothing to ask.
     Closed,

@@ -13,6 +13,7 @@ use std::alloc::{AllocError, Global};
 use table::Slot;
 
 /// A text of cases, written back with every answer worked out afresh.
+// A function of this crate beside the generic one, since its promise speaks of what these cases are answered.
 pub fn replayed(heap: Global, text: &[u8]) -> Result<Vec<u8>, AllocError>
     ensures { IfOk result (λ out. Replays FreshCase (lines text.now) out.items) }
 {

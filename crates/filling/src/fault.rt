@@ -27,6 +27,7 @@ pub enum FillFault {
 
 impl FillFault {
     /// The number of the refusal.
+    // Beside the `From`, so that every refusal is asked for its number in one way.
     pub fn number(self) -> u8
         ensures { result ≡ fill_fault_number self }
     {

@@ -72,6 +72,7 @@ pub fn text<S: Store>(heap: Global, store: &S, view: View) -> Result<String, All
 {
     let mut out = String::new(heap);
     let mut gap = None;
+    // A store is asked by place: there is no slice to walk.
     for at in 0..store.count() {
         if let Some(word) = word_at(store, at, view) {
             gap = push_word(&mut out, gap, word)?;

@@ -40,6 +40,7 @@ pub fn tally<S: Store>(store: &S) -> Counts
         literals: 0,
         marks: 0,
     };
+    // A store is asked by place: there is no slice to walk.
     for at in 0..entries {
         counts.note(store.token(at));
     }

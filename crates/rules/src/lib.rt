@@ -47,6 +47,7 @@ fn walked<E: Entries>(entries: &E, count: usize) -> Result<(), Offence>
     ensures { result ≡ judged (walk false []) 0 (E.Entries.listed entries.now) }
 {
     let mut walk = Walk::new();
+    // Entries of any make are shown by place: there is no slice to walk.
     for place in 0..count {
         match walk.step(place, entries.look(place)) {
             Ok(Next::On) => {}

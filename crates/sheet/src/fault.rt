@@ -45,6 +45,7 @@ pub struct Refused<T> {
 
 impl StoreFault {
     /// The refusal's number, as docs/REFUSALS.md lists it.
+    // Not a `From`: the number holds neither the place nor the rule.
     pub fn number(&self) -> u8
         ensures { result ≡ fault_number self.now }
     {

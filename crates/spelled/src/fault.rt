@@ -33,6 +33,7 @@ impl From<Refused<Parts>> for WholeFault {
     }
 }
 
+// By hand: what a derive writes has no contract, and callers promise what becomes of want of memory.
 impl From<AllocError> for WholeFault {
     ghost from_gives = { λ _ r. r ≡ WholeMemory };
 
