@@ -26,7 +26,6 @@ no_more n i text all within e so_far =
 
 -- a text that is not empty is read as its digits
 pub some_text : (text : List ℕ) → false ≡ eqb (length text) 0 → fitting (value 0 text) ≡ number_of text
-unfolding number_of
 some_text [] some = let z : ◌≡◌ {A = ℕ} 0 1 = cc in absurd (omega arith)
 some_text (b ∷ bs) some = refl
 
