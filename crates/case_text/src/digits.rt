@@ -10,6 +10,7 @@ use std::alloc::Global;
 pub fn from_hex(heap: Global, text: &[u8]) -> Result<Vec<u8>, LineFault>
     ensures { Gives vec_items (hex_bytes text.now) result }
 {
+    // Two tests: as one `match` it was tried, and the proof did not close.
     if text.is_empty() {
         return Err(LineFault::Unknown);
     }

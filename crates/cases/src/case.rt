@@ -41,8 +41,7 @@ impl From<Answer> for Case {
     fn from(answer: Answer) -> Case {
         match answer {
             Answer::Ok => Case::Open,
-            Answer::Refused(_) => Case::Closed,
-            Answer::Closed => Case::Closed,
+            Answer::Refused(_) | Answer::Closed => Case::Closed,
             Answer::Unknown => Case::Unknown,
         }
     }
@@ -52,6 +51,7 @@ impl From<Answer> for Case {
 fn begun(heap: Global, question: &[u8]) -> Result<(Case, Answer), AllocError>
     ensures { IfOk result (λ p. First question.now p.1 × (p.0 ≡ begun_by p.1)) }
 {
+    // Matched here and in the other crate of cases: one function would take the pair for an unknown line and say no more.
     match first_answer(heap, question) {
         Ok(answer) => Ok((Case::from(answer), answer)),
         Err(LineFault::Unknown) => Ok((Case::Unknown, Answer::Unknown)),

@@ -21,7 +21,7 @@ pub enum Answer {
     /// The entries of the table.
     Entries,
     /// The question has no answer by its nature.
-    // A case and no None, since one match on the answer says what is written behind a question.
+    // A case and no None: an Option around the eight others would be taken apart wherever an answer is written.
     Silent,
     /// The store of the case was refused, so there is nothing to ask.
     Closed,
@@ -38,7 +38,7 @@ impl fmt::Display for Answer {
             Answer::Wrote(place) => write!(f, "ok {place}"),
             Answer::NotOpened(fault) => write!(f, "{}", Refusal(*fault)),
             Answer::NotFilled(fault) => {
-                let number = fault.number();
+                let number = u8::from(*fault);
                 write!(f, "no {number}")
             }
             Answer::NoGroup => {

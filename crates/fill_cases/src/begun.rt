@@ -20,6 +20,7 @@ use std::alloc::{AllocError, Global};
 pub(crate) fn begun(heap: Global, question: &[u8]) -> Result<(Case, Answer), AllocError>
     ensures { IfOk result (λ p. Begins (verb_of (front 32 question.now)) (behind 32 question.now) p.0 p.1) }
 {
+    // Matched here and in the other crate of cases: one function would take the pair for an unknown line and say no more.
     match begin(heap, question) {
         Ok(begun) => Ok(begun),
         Err(LineFault::Unknown) => Ok((Case::Unknown, Answer::Unknown)),

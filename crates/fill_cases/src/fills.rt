@@ -73,6 +73,7 @@ pub(crate) fn fill_step(work: Work, question: &[u8]) -> (Case, Answer)
 fn put(work: &mut Work, call: Call) -> Answer
     ensures { Put work.old call work.new result }
 {
+    // Not `Parts::texts`, which would borrow the entries too, and the call writes them.
     let texts = Texts {
         sheet: work.parts.sheet.as_slice(),
         template: work.parts.template.as_slice(),

@@ -12,6 +12,6 @@ mod verb;
 mod work;
 
 pub use answer::Answer;
-pub use case::Case;
+pub use case::{Case, Opened};
 pub use text::replayed;
 pub use work::Work;

@@ -6,7 +6,7 @@ use crate::case::{Case, Opened};
 use packed::Packed;
 use table::{Parts, Table};
 
-// Two functions, since the two stores have no trait by which both are opened.
+// Two functions: one over both would take the case to make as a closure, and its contract would speak of what the closure does.
 
 /// Opens bytes as a packed sheet.
 pub(crate) fn open_packed(bytes: Vec<u8>) -> (Case, Answer)

@@ -18,7 +18,7 @@ pub enum Verb {
     Cut,
     Read,
     /// Another word: a fill call, or nothing that is known.
-    // A case and no None, since a filling reads such a question as a fill call.
+    // A case and no None: a filling reads such a question as a fill call, and each match would wrap the eight others in `Some`.
     Other,
 }
 

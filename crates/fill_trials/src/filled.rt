@@ -97,7 +97,7 @@ type Answer = Result<usize, u8>;
 
 /// The answer, with its refusal by number.
 fn number_refusal(answer: Result<usize, FillFault>) -> Answer {
-    answer.map_err(|fault| fault.number())
+    answer.map_err(|fault| u8::from(fault))
 }
 
 /// Puts a call by its name.

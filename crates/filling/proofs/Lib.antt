@@ -1,3 +1,4 @@
+pub mod Clear
 pub mod Laid
 pub mod Told
 pub mod Fits

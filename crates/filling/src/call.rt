@@ -1,4 +1,4 @@
-//! The fill calls, and why one is refused.
+//! The fill calls, and what a filling waits for.
 use table::TextPlace;
 
 /// A fill call. Delimiter and spacing are numbers as somebody wrote them; whether they are legal is what the answer says.

@@ -25,16 +25,6 @@ pub enum FillFault {
     TooShort = 9,
 }
 
-impl FillFault {
-    /// The number of the refusal.
-    // Beside the `From`, so that every refusal is asked for its number in one way.
-    pub fn number(self) -> u8
-        ensures { result ≡ fill_fault_number self }
-    {
-        u8::from(self)
-    }
-}
-
 impl From<FillFault> for u8 {
     ghost from_gives = { λ fault number. number ≡ fill_fault_number fault };
 

@@ -85,6 +85,7 @@ impl Filling {
         let open = self.groups.len();
         // Owed after the call: an End for each open group and the last End; and after an apostrophe its name.
         match (self.state, call) {
+            // Three arms of one text below: the borrow checker does not cover an or-pattern here.
             (State::Sealed, _) => Err(FillFault::Sealed),
             (State::Open, Call::Name { place, .. }) => self.check_text(len, texts, place),
             (State::Waiting, Call::Name { place, .. }) => self.check_text(len, texts, place),
@@ -104,6 +105,7 @@ impl Filling {
                 self.check_room(len, open + 1 + usize::from(character == '\''))
             }
             (State::Open, Call::Open { delimiter, .. }) => {
+                // As the refusal words it: which delimiter it is does not matter here.
                 if delimiter > 3 {
                     return Err(FillFault::Delimiter);
                 }

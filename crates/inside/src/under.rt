@@ -4,5 +4,6 @@
 #[derive(Clone, Copy)]
 pub(crate) enum Under {
     Below(usize),
+    // No absence, so no `None`: it is an entry of the contents that no place below holds.
     Last,
 }

@@ -40,6 +40,7 @@ pub fn parts_of_filling(heap: Global, words: Split<'_, '_>) -> Result<Parts, Lin
         return Err(LineFault::Unknown);
     }
     let count = number(count).ok_or(LineFault::Unknown)?;
+    // The last lines are those of `parts_of_slots`: a function for them would take three pieces and promise as much as both.
     let entries = vec![in heap; Slot::End { distance: 0 }; count as usize]?;
     let sheet = from_hex(heap, sheet)?;
     let template = from_hex(heap, template)?;

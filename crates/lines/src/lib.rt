@@ -1,4 +1,4 @@
-//! The lines of a case: where a question ends, and what its pieces say.
+//! What the pieces of a line of a case say.
 #![tactic(auto)]
 
 mod given;

@@ -6,6 +6,7 @@ use bstr::Split;
 
 /// The number that a text writes in decimal digits. There is none if it is empty, if a byte is no digit, or if the number
 /// does not fit. Zeros may lead.
+// Not `parse`, which takes a `+` in front and wants a text that is UTF-8.
 pub fn number(text: &[u8]) -> Option<u32>
     ensures { result ≡ number_of text.now }
 {

@@ -43,7 +43,7 @@ impl Packed {
         bytes
     }
 
-    /// The entry at a place: every question asks this one.
+    /// The entry at a place, as its bytes have it.
     pub(crate) fn slot(&self, at: usize) -> Option<Slot>
         ensures is { found (bytes_of self.now) at result ≡ entry_at (entries (sheet_of self.now)) at }
         ensures spacing { spaced result ≡ true }

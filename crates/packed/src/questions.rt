@@ -46,10 +46,7 @@ impl Store for Packed {
             },
             Slot::Mark(character, spacing) => Entry::Mark {
                 character: char::from(character),
-                spacing: match spacing {
-                    1 => Spacing::Joint,
-                    _ => Spacing::Alone,
-                },
+                spacing: Spacing::try_from(u32::from(spacing)).ok()?,
                 stamp: here,
             },
             Slot::End(distance) => Entry::End {

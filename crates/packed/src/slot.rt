@@ -11,6 +11,7 @@ pub(crate) enum Slot {
     Group(Delimiter, u16),
     Name(u16),
     Literal(u16),
+    // The two bytes as they stand: whether the second is a spacing is for the rules to say.
     Mark(u8, u8),
     End(u16),
 }

@@ -15,6 +15,7 @@ fn is_printable(byte: u8) -> bool
     matches!(byte, b' '..=b'~')
 }
 
+// Not `write!(out, "\\x{byte:02x}")`: tried, and a text of escapes takes two and a half times as long.
 fn push_escape(out: &mut String, byte: u8) -> Result<(), AllocError>
     ensures { OnOk result (Appends out.old out.new (escape byte)) }
 {

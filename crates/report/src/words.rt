@@ -37,6 +37,7 @@ pub(crate) fn word_at<S: Store>(store: &S, at: usize, view: View) -> Option<Word
     ensures { option_map word_said result ≡ entry_said view (entries (S.Store.sheet store.now)) at (entry_at (entries (S.Store.sheet store.now)) at) }
 {
     match store.token(at) {
+        // Two arms of one text: the borrow checker does not cover an or-pattern here.
         Some(Tree::Name(text)) => Some(Word::Text(text)),
         Some(Tree::Literal(text)) => Some(Word::Text(text)),
         Some(Tree::Mark(character, spacing)) => {

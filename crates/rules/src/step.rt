@@ -108,6 +108,7 @@ impl Walk {
     fn open(&mut self, at: usize, delimiter: u32, distance: usize) -> Result<Next, Rule>
         ensures { next_of result (walk_of self.new) ≡ opening_rule (walk_of self.old) at delimiter distance }
     {
+        // As the rule words it: which delimiter it is does not matter here.
         if delimiter > 3 {
             return Err(Rule::Delimiter);
         }
@@ -115,13 +116,9 @@ impl Walk {
             from: at,
             claims: distance,
         };
-        match self.open_groups.try_push(group) {
-            Ok(()) => {
-                self.waiting = false;
-                Ok(Next::On)
-            }
-            Err(_) => Err(Rule::TooDeep),
-        }
+        self.open_groups.try_push(group).map_err(|_| Rule::TooDeep)?;
+        self.waiting = false;
+        Ok(Next::On)
     }
 
     /// Takes an End.

@@ -35,6 +35,10 @@ first (e ∷ es) = e
 abbrev pub at : {St : Type 0} → List (Entry St) → ℕ → Entry St
 at es p = first (drop p es)
 
+-- The entry at a place of a sheet's flat form.
+abbrev pub entry_of : {St : Type 0} → Trees St → ℕ → Entry St
+entry_of t p = at (entries t) p
+
 -- The trees of a stretch of entries, level by level: what is left of the innermost group, then of each group around it.
 pub record Levels (St : Type 0) : Type 0 where
   pub inner : Trees St

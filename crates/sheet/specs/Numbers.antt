@@ -7,6 +7,7 @@ use Rattle.sheet.specs.declared.kind.Delimiter.TheVariants.{Invisible, Parenthes
 use Rattle.sheet.specs.declared.kind.UnknownDelimiter.{UnknownDelimiter}
 use Rattle.sheet.specs.declared.kind.Spacing.{Spacing}
 use Rattle.sheet.specs.declared.kind.Spacing.TheVariants.{Alone, Joint}
+use Rattle.sheet.specs.declared.kind.UnknownSpacing.{UnknownSpacing}
 use Rattle.sheet.specs.declared.fault.StoreFault.{StoreFault}
 use Rattle.sheet.specs.declared.fault.StoreFault.TheVariants.{Frame, Rules}
 
@@ -31,6 +32,10 @@ NamesDelimiter n r = MatchResult r (λ d. delimiter_number d ≡ n) (λ e. (e.0 
 abbrev pub spacing_number : Spacing → ℕ
 spacing_number Alone = 0
 spacing_number Joint = 1
+
+-- A number gives the spacing that has it; above 1 there is none.
+abbrev pub NamesSpacing : ℕ → Result Spacing UnknownSpacing → Type 0
+NamesSpacing n r = MatchResult r (λ s. spacing_number s ≡ n) (λ e. (e.0 ≡ n) × (1 < n))
 
 abbrev pub fault_number : StoreFault → ℕ
 fault_number Frame = 11

@@ -1,6 +1,6 @@
 //! The small closed lists of the subject, as enums; `specs/Numbers` gives their numbers.
 ghost use Rattle.std.specs.Prelude.{◌≡◌};
-ghost use Rattle.sheet.specs.Numbers.{kind_number, delimiter_number, spacing_number, NamesDelimiter};
+ghost use Rattle.sheet.specs.Numbers.{kind_number, delimiter_number, spacing_number, NamesDelimiter, NamesSpacing};
 ghost use Rattle.sheet.specs.Questions.{three};
 
 /// What stands at a place of the flat form.
@@ -72,6 +72,24 @@ impl From<Spacing> for u8 {
 
     fn from(spacing: Spacing) -> u8 {
         spacing as u8
+    }
+}
+
+/// A number that no spacing has.
+#[derive(Clone, Copy, PartialEq, Eq, Debug)]
+pub struct UnknownSpacing(pub u32);
+
+impl TryFrom<u32> for Spacing {
+    type Error = UnknownSpacing;
+
+    ghost try_from_gives = { NamesSpacing };
+
+    fn try_from(number: u32) -> Result<Spacing, UnknownSpacing> {
+        match number {
+            0 => Ok(Spacing::Alone),
+            1 => Ok(Spacing::Joint),
+            _ => Err(UnknownSpacing(number)),
+        }
     }
 }
 

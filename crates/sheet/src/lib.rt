@@ -11,7 +11,7 @@ mod tree;
 
 pub use entry::Entry;
 pub use fault::{Refused, Rule, StoreFault};
-pub use kind::{Delimiter, EntryKind, Spacing, Stamps, UnknownDelimiter};
+pub use kind::{Delimiter, EntryKind, Spacing, Stamps, UnknownDelimiter, UnknownSpacing};
 pub use same::same_sheet;
 pub use store::Store;
 pub use tree::Tree;

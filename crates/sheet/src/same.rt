@@ -7,7 +7,8 @@ ghost use Rattle.sheet.specs.Forms.{ReadBack, OneSheet, OwnSheet};
 use crate::store::Store;
 
 /// Whether two stores have the same entry at a place, stamps apart.
-// The two stores stay two parameters: a struct of two references would say no more.
+// The two stores stay two parameters: a struct of two references would say no more. Early returns, since as one chain of `&&`
+// it was tried, and the proof did not close.
 fn same_entry<S: Store, T: Store>(a: &S, b: &T, at: usize) -> bool
     ensures { Decides result (bare_entry (entry_at (entries (S.Store.sheet a.now)) at) ≡ bare_entry (entry_at (entries (T.Store.sheet b.now)) at)) }
 {
@@ -49,7 +50,7 @@ fn are_same<S: Store, T: Store>(a: &S, b: &T) -> bool
     if count != b.count() {
         return false;
     }
-    // A store is asked by place: there is no slice to walk.
+    // A loop, since `all` was tried, and the proof did not close.
     for at in 0..count {
         if !same_entry(a, b, at) {
             return false;

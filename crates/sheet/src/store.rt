@@ -1,7 +1,7 @@
 //! The interface of every place where a sheet is kept.
 ghost use Rattle.std.specs.Prelude.{◌≡◌, length};
 ghost use Rattle.sheet.specs.Trees.{Trees};
-ghost use Rattle.sheet.specs.Entries.{entries, at as entry_at};
+ghost use Rattle.sheet.specs.Entries.{entries, entry_of};
 ghost use Rattle.sheet.specs.Limits.{KeepsLimits};
 ghost use Rattle.sheet.specs.Numbers.{delimiter_number, spacing_number};
 ghost use Rattle.sheet.specs.Questions.{entry_said, kind_of, distance_of, delimiter_of, character_of, spacing_of, text_of, stamps_of, token_of, token_said};
@@ -28,14 +28,14 @@ pub trait Store {
 
     /// The entry at a place, or nothing past the last End.
     fn entry(&self, at: usize) -> Option<Entry<'_, Self::Stamp>>
-        ensures { entry_said result ≡ entry_at (entries (sheet self.now)) at };
+        ensures { entry_said result ≡ entry_of (sheet self.now) at };
 
     /// The stamp of what was written nowhere.
     fn call_site(&self) -> Self::Stamp
         ensures { result ≡ site };
 
     fn kind(&self, at: usize) -> EntryKind
-        ensures { result ≡ kind_of (entry_at (entries (sheet self.now)) at) }
+        ensures { result ≡ kind_of (entry_of (sheet self.now) at) }
     {
         match self.entry(at) {
             Some(Entry::Group { .. }) => EntryKind::Group,
@@ -49,7 +49,7 @@ pub trait Store {
 
     /// From a Group to its End, and from an End back to its Group; 0 at the last End.
     fn distance(&self, at: usize) -> usize
-        ensures { result ≡ distance_of (entry_at (entries (sheet self.now)) at) }
+        ensures { result ≡ distance_of (entry_of (sheet self.now) at) }
     {
         match self.entry(at) {
             Some(Entry::Group { distance, .. } | Entry::End { distance }) => distance,
@@ -58,7 +58,7 @@ pub trait Store {
     }
 
     fn delimiter(&self, at: usize) -> Delimiter
-        ensures { delimiter_number result ≡ delimiter_of (entry_at (entries (sheet self.now)) at) }
+        ensures { delimiter_number result ≡ delimiter_of (entry_of (sheet self.now) at) }
     {
         match self.entry(at) {
             Some(Entry::Group { delimiter, .. }) => delimiter,
@@ -67,7 +67,7 @@ pub trait Store {
     }
 
     fn character(&self, at: usize) -> char
-        ensures { result ≡ character_of (entry_at (entries (sheet self.now)) at) }
+        ensures { result ≡ character_of (entry_of (sheet self.now) at) }
     {
         match self.entry(at) {
             Some(Entry::Mark { character, .. }) => character,
@@ -76,7 +76,7 @@ pub trait Store {
     }
 
     fn spacing(&self, at: usize) -> Spacing
-        ensures { spacing_number result ≡ spacing_of (entry_at (entries (sheet self.now)) at) }
+        ensures { spacing_number result ≡ spacing_of (entry_of (sheet self.now) at) }
     {
         match self.entry(at) {
             Some(Entry::Mark { spacing, .. }) => spacing,
@@ -85,7 +85,7 @@ pub trait Store {
     }
 
     fn text(&self, at: usize) -> &[u8]
-        ensures { result.now ≡ text_of (entry_at (entries (sheet self.now)) at) }
+        ensures { result.now ≡ text_of (entry_of (sheet self.now) at) }
     {
         match self.entry(at) {
             Some(Entry::Name { text, .. } | Entry::Literal { text, .. }) => text,
@@ -94,7 +94,7 @@ pub trait Store {
     }
 
     fn stamps(&self, at: usize) -> Stamps<Self::Stamp>
-        ensures { result ≡ stamps_of site (entry_at (entries (sheet self.now)) at) }
+        ensures { result ≡ stamps_of site (entry_of (sheet self.now) at) }
     {
         match self.entry(at) {
             Some(Entry::Group { stamps, .. }) => stamps,
@@ -109,7 +109,7 @@ pub trait Store {
 
     /// The tree that begins at a place, or nothing at an End or beyond.
     fn token(&self, at: usize) -> Option<Tree<'_>>
-        ensures { token_said result ≡ token_of (entry_at (entries (sheet self.now)) at) }
+        ensures { token_said result ≡ token_of (entry_of (sheet self.now) at) }
     {
         match self.entry(at)? {
             Entry::Name { text, .. } => Some(Tree::Name(text)),

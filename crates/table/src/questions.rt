@@ -43,10 +43,7 @@ impl Store for Table {
                 stamp,
             } => Entry::Mark {
                 character,
-                spacing: match spacing {
-                    1 => Spacing::Joint,
-                    _ => Spacing::Alone,
-                },
+                spacing: Spacing::try_from(spacing).ok()?,
                 stamp,
             },
             Slot::Literal { place, stamp } => Entry::Literal {

@@ -11,6 +11,7 @@ pub struct TextPlace {
 /// One entry of a table. The fields are numbers as somebody wrote them; whether they are legal is judged later.
 #[derive(Clone, Copy, PartialEq, Eq, Debug)]
 pub enum Slot {
+    // Three stamps and no `Stamps`: an entry is written and read as a row of numbers.
     Group {
         distance: u32,
         delimiter: u32,

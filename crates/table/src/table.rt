@@ -35,7 +35,7 @@ impl Table {
         parts.into_entries()
     }
 
-    /// The entry at a place: every question asks this one.
+    /// The entry at a place, as somebody wrote it.
     pub(crate) fn slot(&self, at: usize) -> Option<Slot>
         ensures is { found (parts_of self.now).sheet.items (parts_of self.now).template.items result ≡ entry_at (entries (sheet_of self.now)) at }
         ensures small { Small result }

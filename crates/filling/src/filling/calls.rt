@@ -1,6 +1,6 @@
 //! The fill calls by their names, and how far a filling has come. A method reads well where a call is written out; `Call` is for
 //! lists of calls.
-ghost use Rattle.std.specs.Prelude.{◌≡◌};
+ghost use Rattle.std.specs.Prelude.{◌≡◌, ◌≤◌};
 ghost use Rattle.filling.specs.Filling.{Fills};
 ghost use Rattle.filling.specs.declared.call.Call.TheVariants.{Name as name_call, Mark as mark_call, Literal as literal_call, Open as open_call, Close as close_call, Seal as seal_call};
 
@@ -12,7 +12,8 @@ use table::{Slot, TextPlace, Texts};
 impl Filling {
     /// How many entries are written.
     pub fn written(&self) -> usize
-        ensures { result ≡ self.now.written }
+        ensures is { result ≡ self.now.written }
+        ensures few { result ≤ 65535 }
     {
         self.written
     }

@@ -23,6 +23,6 @@ pub returns-in-Some-Read : goal.returns-in-Some-Read
 returns-in-Some-Read c =
     let w = c.args.work in
     let p : Parts = record { entries = c.truncate-in-Some-Read.new.self; sheet = w.parts.sheet; template = w.parts.template } in
-    let first = c.truncate-in-Some-Read.ensures.items ∙ ap (λ n. take n (vec_items w.parts.entries)) c.written.ensures in
+    let first = c.truncate-in-Some-Read.ensures.items ∙ ap (λ n. take n (vec_items w.parts.entries)) c.written.ensures.is in
     let said = ap (λ q. fill_question_said (Some q)) (sym c.in-Some-Read.field-0-is) ∙ c.in-Some-Read.ensures in
     subst (λ (q : FillQuestionSaid). StepsFilling w q c.open_table.result.0 c.open_table.result.1) said (p, record { entries = first; sheet = refl; template = refl }, c.open_table.ensures)
