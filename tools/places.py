@@ -14,7 +14,7 @@ import sys
 ROOT = sys.argv[1] if len(sys.argv) > 1 else os.path.join(os.path.dirname(os.path.abspath(__file__)), "..")
 FILES = {os.path.relpath(f, ROOT): open(f, encoding="utf-8").read().split("\n")
          for f in sorted(glob.glob(os.path.join(ROOT, "crates/*/src/**/*.rt"), recursive=True))}
-CODE = {f: t for f, t in FILES.items() if "trials" not in f}
+CODE = {f: t for f, t in FILES.items() if "trials" not in f and not f.endswith("tests.rt")}
 
 
 def lines(pattern, files=CODE):

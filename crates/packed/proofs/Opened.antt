@@ -1,5 +1,5 @@
 -- An opened sheet: its flat form is the list of entries in its bytes.
-use Rattle.std.proofs.Common.{◌≡◌, ℕ, List, ◌<◌, true, leb, length, Some, None, Option, IsSome, sym, refl, subst, ap, ◌∙◌, ⊎_elim, arith, rules}
+use Rattle.std.proofs.Common.{◌≡◌, ℕ, List, ◌<◌, true, length, Some, None, Option, IsSome, sym, refl, subst, ◌∙◌, ⊎_elim, arith, rules}
 use Rattle.std.proofs.lemmas.Bool.{cases_lt}
 use Rattle.sheet.specs.Entries.{Entry, Nothing, entries, at}
 use Rattle.sheet.specs.Limits.{LegalFields}
@@ -13,7 +13,6 @@ use Rattle.packed.specs.declared.packed.Packed.{Packed}
 use Rattle.packed.specs.declared.stamp.Stamp.{Stamp}
 use Rattle.packed.specs.declared.slot.Slot.{Slot}
 use Rattle.packed.specs.declared.slot.Slot.TheVariants.{Group, Name, Mark as SMark, Literal, End}
-use Rattle.packed.proofs.Listed.{length_listed}
 
 its_sheet : (p : Packed) → OneLawfulSheet (listed (bytes_of p))
 its_sheet p = Sheets.its_sheet (listed (bytes_of p)) p.framed.lawful
