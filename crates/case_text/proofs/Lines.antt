@@ -1,72 +1,27 @@
 -- The lines of a text, one after another.
-use Rattle.std.proofs.Common.{◌≡◌, ℕ, zero, suc, ◌-◌, ◌<◌, ◌≤◌, Bool, true, false, cond, ◌&&◌, ◌==◌, eqb, List, [], ◌∷◌, ◌++◌, length, map, take, drop, Option, Some, None, unwrap_or, codes, sym, refl, ap, ◌∙◌, subst, ⊎_elim, append_assoc, append-nil, length-drop, length-take-le, arith}
-use Rattle.std.specs.Borrow.{Bor}
-use Rattle.std.specs.Option.{MatchOption}
-use Rattle.std.specs.Cmp.Lexicographic.{pointwise}
-use Rattle.std.proofs.lemmas.Bool.{cases_Bool, cond-true, cond-false}
-use Rattle.bstr.specs.Text.{line_len, lines_from}
-use Rattle.bstr.proofs.lemmas.LineLemmas.{line_len-bounds}
+use Rattle.std.proofs.Common.{◌≡◌, ℕ, zero, suc, ◌+◌, ◌-◌, ◌<◌, eqb, List, [], ◌∷◌, ◌++◌, length, get_or, take, drop, codes, sym, refl, ap, ◌∙◌, subst, append_assoc, append-nil, add-one, arith}
+use Rattle.std.proofs.lemmas.List.{take_rest}
+use Rattle.std.proofs.lemmas.Bool.{eq-eqb, ne_eqb, cond-true, cond-false}
 use Rattle.case_text.specs.Texts.{led_by, lines, Line, Replays}
 
--- A newline ends the line.
-abbrev pub ends : List ℕ → Bool
-ends l = pointwise eqb (drop (length l - 1) l) (codes "\n")
+-- the first newline ends the first line
+cut : (text : List ℕ) (n : ℕ) → n < length text → ((k : ℕ) → k < n → get_or text k 0 ≡ 10 → ⊥) → get_or text n 0 ≡ 10 → lines text ≡ take n text ∷ lines (drop (suc n) text)
+cut [] n within before here = absurd (omega arith)
+cut (b ∷ bs) zero within before here = cond-true (eqb b 10) _ _ (eq-eqb b 10 here)
+cut (b ∷ bs) (suc n) within before here =
+    cond-false (eqb b 10) _ _ (ne_eqb b 10 (before 0 (omega arith))) ∙ ap (led_by b) (cut bs n (omega arith) (λ k l. before (suc k) (omega arith)) here)
 
--- A line without the newline that ends it.
-abbrev pub without_newline : List ℕ → List ℕ
-without_newline l = cond (ends l) (take (length l - 1) l) l
+pub first_line : (text : List ℕ) (n : ℕ) → n < length text → ((k : ℕ) → k < n → get_or text k 0 ≡ 10 → ⊥) → get_or text n 0 ≡ 10 → lines text ≡ take n text ∷ lines (take (length text - (n + 1)) (drop (n + 1) text))
+first_line text n within before here =
+    let behind : drop (suc n) text ≡ take (length text - (n + 1)) (drop (n + 1) text) = ap (λ j. drop j text) (sym (add-one n)) ∙ sym (take_rest text (n + 1)) in
+    cut text n within before here ∙ ap (λ r. take n text ∷ lines r) behind
 
--- what `strip_suffix` leaves, or the line
-pub stripped : (L : Bor (List ℕ) → Type 0) (line r : Bor (List ℕ)) (o : Option (Bor (List ℕ))) → MatchOption o (ends line.now ≡ false) (λ x. (ends line.now ≡ true) × (x.now ≡ take (length line.now - 1) line.now) × L x) → r ≡ unwrap_or o line → r.now ≡ without_newline line.now
-stripped L line r None other is = ap (λ b. b.now) is ∙ sym (cond-false _ _ _ other)
-stripped L line r (Some x) (newline, front, rest) is = ap (λ b. b.now) is ∙ front ∙ sym (cond-true _ _ _ newline)
-
-longer : (b : ℕ) (l : List ℕ) → 0 < length l → without_newline (b ∷ l) ≡ b ∷ without_newline l
-longer b [] some = absurd (omega arith)
-longer b (x ∷ xs) some =
-    let l = x ∷ xs in
-    let before : length (b ∷ l) - 1 ≡ suc (length l - 1) = omega arith in
-    ap (λ n. cond (pointwise eqb (drop n (b ∷ l)) (codes "\n")) (take n (b ∷ l)) (b ∷ l)) before
-    ∙ ⊎_elim
-    (λ is. cond-true _ _ _ is ∙ ap (λ r. b ∷ r) (sym (cond-true _ _ _ is)))
-    (λ is. cond-false _ _ _ is ∙ ap (λ r. b ∷ r) (sym (cond-false _ _ _ is)))
-    (cases_Bool (ends l))
-
-alone : (b : ℕ) (t : Bool) → b == 10 ≡ t → without_newline (b ∷ []) ≡ cond t [] (b ∷ [])
-alone b true is = ap (λ u. cond (u && true) [] (b ∷ [])) is
-alone b false is = ap (λ u. cond (u && true) [] (b ∷ [])) is
-
--- Whether the first byte is a newline or not, the first line is taken up to its newline.
-abbrev Splits : ℕ → List ℕ → Bool → Type 0
-Splits b bs t = let n = cond t 1 (suc (line_len bs)) in cond t ([] ∷ lines bs) (led_by b (lines bs)) ≡ without_newline (take n (b ∷ bs)) ∷ lines (drop n (b ∷ bs))
-
-first : (b : ℕ) (bs : List ℕ) → Splits b bs (b == 10)
-unfolding line_len
-first b [] =
-    ⊎_elim
-    (λ is. subst (Splits b []) (sym is) (ap (λ l. l ∷ []) (sym (alone b true is))))
-    (λ is. subst (Splits b []) (sym is) (ap (λ l. l ∷ []) (sym (alone b false is))))
-    (cases_Bool (b == 10))
-first b (d ∷ ds) =
-    let bs = d ∷ ds in
-    let n = line_len bs in
-    let bounds = line_len-bounds bs (omega arith) in
-    let some : 0 < length (take n bs) = let long = length-take-le n bs bounds.1 in omega arith in
-    ⊎_elim
-    (λ is. subst (Splits b bs) (sym is) (ap (λ l. l ∷ lines bs) (sym (alone b true is))))
-    (λ is. subst (Splits b bs) (sym is) (ap (led_by b) (first d ds) ∙ ap (λ l. l ∷ lines (drop n bs)) (sym (longer b (take n bs) some))))
-    (cases_Bool (b == 10))
-
-pub lines_are : (n : ℕ) (text : List ℕ) → length text ≤ n → map without_newline (lines_from n text) ≡ lines text
-unfolding lines_from line_len
-lines_are zero [] l = refl
-lines_are (suc n) [] l = refl
-lines_are zero (b ∷ bs) l = absurd (omega arith)
-lines_are (suc n) (b ∷ bs) l =
-    let text = b ∷ bs in
-    let some = line_len-bounds text (omega arith) in
-    let left = length-drop (line_len text) text in
-    ap (λ ls. without_newline (take (line_len text) text) ∷ ls) (lines_are n (drop (line_len text) text) (omega arith)) ∙ sym (first b bs)
+-- a text with no newline is one line
+pub one_line : (text : List ℕ) → 0 < length text → ((k : ℕ) → k < length text → get_or text k 0 ≡ 10 → ⊥) → lines text ≡ text ∷ []
+one_line [] some none = absurd (omega arith)
+one_line (b ∷ []) some none = cond-false (eqb b 10) _ _ (ne_eqb b 10 (none 0 (omega arith)))
+one_line (b ∷ d ∷ bs) some none =
+    cond-false (eqb b 10) _ _ (ne_eqb b 10 (none 0 (omega arith))) ∙ ap (led_by b) (one_line (d ∷ bs) (omega arith) (λ k l. none (suc k) (omega arith)))
 
 module _ {C A : Type 0} (fresh : C) (steps : C → List ℕ → C → A → Type 0) (written : C → A → List ℕ) where
   -- Before the first line, all of them are left.
@@ -79,6 +34,11 @@ module _ {C A : Type 0} (fresh : C) (steps : C → List ℕ → C → A → Type
   one_more c d left line behind out more All so_far is (w, wrote, more_is) rest h =
       let whole : Replays fresh steps written c left (w ++ rest) = subst (λ (ls : List (List ℕ)). Replays fresh steps written c ls (w ++ rest)) (sym is) (d, w, rest, wrote, h, refl) in
       subst All (sym (ap (λ l. l ++ rest) more_is ∙ append_assoc out w rest)) (so_far (w ++ rest) whole)
+
+  -- A blank line was written.
+  pub blank_line : (c d : C) (line out more : List ℕ) → length line ≡ 0 → d ≡ fresh → more ≡ out ++ codes "\n" → (w : List ℕ) × Line fresh steps written c line d w × (more ≡ out ++ w)
+  blank_line c d [] out more none is m = (codes "\n", (is, refl), m)
+  blank_line c d (b ∷ bs) out more none is m = absurd (omega arith)
 
   pub none_left : (c : C) (left : List (List ℕ)) (out : List ℕ) (All : List ℕ → Type 0) → ((rest : List ℕ) → Replays fresh steps written c left rest → All (out ++ rest)) → left ≡ [] → All out
   none_left c left out All so_far none =

@@ -1,6 +1,6 @@
 //! Bytes that are written in hexadecimal digits.
 ghost use Rattle.std.specs.Prelude.{vec_items};
-ghost use Rattle.case_text.specs.Digits.{hex_bytes};
+ghost use Rattle.case_text.specs.Digits.{pairs, hex_bytes};
 ghost use Rattle.case_text.specs.Faults.{Gives};
 
 use crate::fault::LineFault;
@@ -10,12 +10,18 @@ use std::alloc::Global;
 pub fn from_hex(heap: Global, text: &[u8]) -> Result<Vec<u8>, LineFault>
     ensures { Gives vec_items (hex_bytes text.now) result }
 {
-    // Two tests: as one `match` it was tried, and the proof did not close.
-    if text.is_empty() {
-        return Err(LineFault::Unknown);
+    match *text {
+        [] => Err(LineFault::Unknown),
+        [b'-'] => Ok(Vec::new(heap)),
+        _ => from_digits(heap, text),
     }
-    if text == b"-".as_slice() {
-        return Ok(Vec::new(heap));
-    }
-    Ok(hex::decode(heap, text)?)
+}
+
+/// Two digits for each byte, the higher one first.
+// On its own, so that one lemma proves it and no answer by hand names its steps: a changed body is judged by what it does.
+#[tactic(auto, using(crate::proofs::Decoding::pairs_are))]
+fn from_digits(heap: Global, digits: &[u8]) -> Result<Vec<u8>, LineFault>
+    ensures { Gives vec_items (pairs digits.now) result }
+{
+    Ok(hex::decode(heap, digits)?)
 }

@@ -3,6 +3,7 @@
 #![tactic(auto)]
 
 mod digits;
+mod each_line;
 mod fault;
 mod line;
 mod program;

@@ -1,9 +1,9 @@
 //! A text of cases, line by line.
-ghost use Rattle.std.specs.Prelude.{◌≡◌, ℕ, List, ◌++◌, IfOk, IfSome, OnOk};
+ghost use Rattle.std.specs.Prelude.{◌≡◌, ℕ, ◌<◌, List, ◌++◌, length, IfOk, IfSome, OnOk};
 ghost use Rattle.case_text.specs.Texts.{answered, lines, Line, Replays};
 
+use crate::each_line::Lines;
 use crate::line::question;
-use bstr::ByteSlice;
 use std::alloc::{AllocError, Global};
 use std::fmt::Display;
 
@@ -56,26 +56,28 @@ pub fn replayed<C: Replay>(heap: Global, text: &[u8]) -> Result<Vec<u8>, AllocEr
 {
     let mut out = Vec::new(heap);
     let mut case = C::fresh();
-    for line in text.lines_with_terminator() {
-        let line = line.strip_suffix(b"\n").unwrap_or(line);
+    for line in Lines::of(text) {
+        // A blank line ends the case.
+        if line.is_empty() {
+            out.extend_from_slice(b"\n")?;
+            case = C::fresh();
+            continue;
+        }
         case = write_back(heap, case, line, &mut out)?;
     }
     Ok(out)
 }
 
-/// Writes a line back, and gives the case after it. A blank line ends the case.
+/// Writes a line that is not blank back, and gives the case after it.
 fn write_back<C: Replay>(
     heap: Global,
     case: C,
     line: &[u8],
     out: &mut Vec<u8>,
 ) -> Result<C, AllocError>
+    requires { 0 < length line.now }
     ensures { IfOk result (λ next. (w : List ℕ) × Line C.fresh_case C.steps C.written case line.now next w × (out.new.items ≡ out.old.items ++ w)) }
 {
-    if line.is_empty() {
-        out.extend_from_slice(b"\n")?;
-        return Ok(C::fresh());
-    }
     let asked = question(line);
     out.extend_from_slice(asked)?;
     let (next, answer) = case.ask(heap, asked)?;

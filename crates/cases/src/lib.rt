@@ -8,4 +8,4 @@ mod text;
 pub use answer::{Answer, opening};
 pub use case::Case;
 pub use case_text::{LineFault, from_hex, question};
-pub use text::replayed;
+pub use text::{replay_input, replayed};

@@ -9,10 +9,9 @@ use crate::case::{Case, Opened};
 use crate::opened::{open_packed, open_table};
 use crate::verb::{Verb, asked};
 use crate::work::Work;
-use bstr::Split;
 use filling::Filling;
 use lines::{LineFault, from_hex, parts_of_filling, parts_of_slots};
-use notation::first_part;
+use notation::{Split, first_part};
 use spelled::{SpelledFault, spelled};
 use std::alloc::{AllocError, Global};
 
@@ -49,7 +48,7 @@ fn begin(heap: Global, question: &[u8]) -> Result<(Case, Answer), LineFault>
     }
 }
 
-fn sheet(heap: Global, words: Split<'_, '_>) -> Result<(Case, Answer), LineFault>
+fn sheet(heap: Global, words: Split<'_>) -> Result<(Case, Answer), LineFault>
     ensures { BeginsSheetOrNot words.entry result }
 {
     match spelled(heap, words) {

@@ -10,9 +10,8 @@ use crate::case::Case;
 use crate::opened::open_table;
 use crate::verb::{Verb, asked};
 use crate::work::Work;
-use bstr::Split;
 use filling::Call;
-use notation::{call, numbers};
+use notation::{Split, call, numbers};
 use table::Texts;
 
 /// What a question asks of a filling.
@@ -25,7 +24,7 @@ pub enum FillQuestion {
 }
 
 /// The only number behind a word.
-pub(crate) fn one_number(rest: Split<'_, '_>) -> Option<u32>
+pub(crate) fn one_number(rest: Split<'_>) -> Option<u32>
     ensures { result ≡ only (numbers_in 1 rest.entry) }
 {
     let [number] = numbers::<1>(rest)?;

@@ -13,5 +13,5 @@ mod work;
 
 pub use answer::Answer;
 pub use case::{Case, Opened};
-pub use text::replayed;
+pub use text::{replay_input, replayed};
 pub use work::Work;

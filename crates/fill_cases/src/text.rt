@@ -1,6 +1,6 @@
 //! A text of cases, and how an answer is written.
-ghost use Rattle.std.specs.Prelude.{◌≡◌, IfOk};
-ghost use Rattle.case_text.specs.Texts.{lines};
+ghost use Rattle.std.specs.Prelude.{◌≡◌, IfOk, OnOk};
+ghost use Rattle.case_text.specs.Texts.{lines, WritesBack};
 ghost use Rattle.fill_cases.specs.Steps.{Steps};
 ghost use Rattle.fill_cases.specs.Texts.{entries_of, written, Replays};
 ghost use Rattle.fill_cases.specs.declared.case.Case.TheVariants.{Fresh as FreshCase};
@@ -10,6 +10,8 @@ use crate::case::Case;
 use case_text::{Replay, write_answered};
 use lines::write_entries;
 use std::alloc::{AllocError, Global};
+use std::io;
+use std::io::{Read, Write};
 use table::Slot;
 
 /// A text of cases, written back with every answer worked out afresh.
@@ -18,6 +20,21 @@ pub fn replayed(heap: Global, text: &[u8]) -> Result<Vec<u8>, AllocError>
     ensures { IfOk result (λ out. Replays FreshCase (lines text.now) out.items) }
 {
     case_text::replayed::<Case>(heap, text)
+}
+
+/// Reads a text of cases to its end and writes it back, with every answer worked out afresh.
+// Beside the generic one, so that what the program writes is what `replayed` gives.
+pub fn replay_input<R: Read, W: Write>(
+    heap: Global,
+    input: &mut R,
+    output: &mut W,
+) -> io::Result<()>
+    ensures { OnOk result (WritesBack FreshCase Steps written (R.remaining input.old) (R.remaining input.new) (W.contents output.old) (W.contents output.new)) }
+{
+    let mut text = Vec::new(heap);
+    input.read_to_end(&mut text)?;
+    let out = replayed(heap, text.as_slice())?;
+    output.write_all(out.as_slice())
 }
 
 impl Replay for Case {
@@ -29,10 +46,13 @@ impl Replay for Case {
 
     ghost written = { written };
 
+    // This and `ask` are inlined, since a case may be large and each call copies it.
+    #[inline(always)]
     fn fresh() -> Case {
         Case::Fresh
     }
 
+    #[inline(always)]
     fn ask(self, heap: Global, question: &[u8]) -> Result<(Case, Answer), AllocError> {
         self.step(heap, question)
     }

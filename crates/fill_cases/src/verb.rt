@@ -3,8 +3,7 @@ ghost use Rattle.std.specs.Prelude.{◌≡◌};
 ghost use Rattle.notation.specs.Parts.{front, behind, parts_left};
 ghost use Rattle.fill_cases.specs.Verbs.{verb_of};
 
-use bstr::Split;
-use notation::split_first;
+use notation::{Split, split_first};
 
 /// What a question asks for, by its first word.
 #[derive(Clone, Copy, PartialEq, Eq, Debug)]
@@ -41,10 +40,10 @@ impl<'a> From<&'a [u8]> for Verb {
 }
 
 /// What a question asks for, and the words behind its first.
-pub(crate) fn asked(question: &[u8]) -> (Verb, Split<'_, 'static>)
+pub(crate) fn asked(question: &[u8]) -> (Verb, Split<'_>)
     ensures verb { result.0 ≡ verb_of (front 32 question.now) }
     ensures rest { result.1 ≡ parts_left 32 (behind 32 question.now) }
 {
-    let (word, rest) = split_first(question, b" ");
+    let (word, rest) = split_first(question, b' ');
     (Verb::from(word), rest)
 }

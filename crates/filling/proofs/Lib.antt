@@ -1,3 +1,4 @@
+pub mod Behind
 pub mod Clear
 pub mod Laid
 pub mod Told

@@ -6,7 +6,7 @@ ghost use Rattle.inside.specs.Opening.{OpensInside, GoesInside, contents_of, no_
 ghost use Rattle.inside.specs.Unders.{entry_under, StandsUnder};
 
 use crate::under::Under;
-use sheet::{EntryKind, Store};
+use sheet::{Entry, EntryKind, Store};
 use std::cmp::Ordering;
 
 /// The contents of the group at a place of the store below. Places in it count from 0, and the End of the group closes it.
@@ -67,6 +67,7 @@ impl<S: Store> Inside<S> {
     }
 
     /// How many entries the contents have, the End of the group with them.
+    #[inline(always)]
     pub(crate) fn span(&self) -> usize
         ensures limits { KeepsLimits (contents_of S.Store.sheet self.now) }
         ensures is { result ≡ length (entries (contents_of S.Store.sheet self.now)) }
@@ -76,13 +77,14 @@ impl<S: Store> Inside<S> {
         if self.place >= self.below.count() {
             return 1;
         }
-        match self.below.kind(self.place) {
-            EntryKind::Group => self.below.distance(self.place),
+        match self.below.entry(self.place) {
+            Some(Entry::Group { distance, .. }) => distance,
             _ => 1,
         }
     }
 
     /// Where the entry at a place of the contents is kept, if there is one: every question asks this one.
+    #[inline(always)]
     pub(crate) fn under(&self, at: usize) -> Option<Under>
         ensures is { entry_under (entries (S.Store.sheet self.now.below)) result ≡ entry_at (entries (contents_of S.Store.sheet self.now)) at }
         ensures place { StandsUnder self.now.place at result }

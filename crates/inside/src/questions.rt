@@ -16,6 +16,8 @@ impl<S: Store> Store for Inside<S> {
         self.span()
     }
 
+    // Inlined, so that a question works out no more of an entry than it answers.
+    #[inline(always)]
     fn entry(&self, at: usize) -> Option<Entry<'_, S::Stamp>> {
         match self.under(at)? {
             Under::Below(place) => self.below.entry(place),

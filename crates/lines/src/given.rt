@@ -3,14 +3,13 @@ ghost use Rattle.lines.specs.Beginnings.{slots_given, filling_given, parts_said}
 ghost use Rattle.case_text.specs.Faults.{Gives};
 
 use crate::slots::entries;
-use bstr::Split;
 use case_text::{LineFault, from_hex};
-use notation::number;
+use notation::{Split, number};
 use std::alloc::Global;
 use table::{Parts, Slot};
 
 /// What stands behind `slots`: the sheet text, the template text, and the entries.
-pub fn parts_of_slots(heap: Global, words: Split<'_, '_>) -> Result<Parts, LineFault>
+pub fn parts_of_slots(heap: Global, words: Split<'_>) -> Result<Parts, LineFault>
     ensures { Gives parts_said (slots_given words.entry) result }
 {
     let mut words = words;
@@ -29,7 +28,7 @@ pub fn parts_of_slots(heap: Global, words: Split<'_, '_>) -> Result<Parts, LineF
 
 /// What stands behind `filling`: how many entries the table has, the sheet text, and the template text. Each entry is at first
 /// an End of distance 0.
-pub fn parts_of_filling(heap: Global, words: Split<'_, '_>) -> Result<Parts, LineFault>
+pub fn parts_of_filling(heap: Global, words: Split<'_>) -> Result<Parts, LineFault>
     ensures { Gives parts_said (filling_given words.entry) result }
 {
     let mut words = words;

@@ -3,14 +3,13 @@ ghost use Rattle.std.specs.Prelude.{◌≡◌, ◌++◌, vec_items, OnOk};
 ghost use Rattle.lines.specs.Beginnings.{slots_of, entries_text, more_text};
 ghost use Rattle.case_text.specs.Faults.{Gives};
 
-use bstr::Split;
 use case_text::LineFault;
-use notation::{slot, write_slot};
+use notation::{Split, slot, write_slot};
 use std::alloc::{AllocError, Global};
 use table::Slot;
 
 /// The entries that words write, one each.
-pub fn entries(heap: Global, words: Split<'_, '_>) -> Result<Vec<Slot>, LineFault>
+pub fn entries(heap: Global, words: Split<'_>) -> Result<Vec<Slot>, LineFault>
     ensures { Gives vec_items (slots_of words.entry) result }
 {
     let mut entries = Vec::new(heap);

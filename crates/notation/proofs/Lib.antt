@@ -1,5 +1,4 @@
 pub mod Values
 pub mod Cuts
-pub mod Splits
 pub mod Counts
 pub mod Backs

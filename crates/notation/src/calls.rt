@@ -4,15 +4,14 @@ ghost use Rattle.notation.specs.Calls.{seal_call, call_of};
 
 use crate::fields::{marked, placed};
 use crate::numerals::numbers;
-use crate::parts::split_first;
-use bstr::Split;
+use crate::parts::{Split, split_first};
 use filling::Call;
 
 /// The fill call that a question writes: its name, and its numbers behind single blanks.
 pub fn call(question: &[u8]) -> Option<Call>
     ensures { result ≡ call_of question.now }
 {
-    let (verb, fields) = split_first(question, b" ");
+    let (verb, fields) = split_first(question, b' ');
     match verb {
         b"name" => {
             let (place, stamp) = placed(fields)?;
@@ -48,7 +47,7 @@ pub fn call(question: &[u8]) -> Option<Call>
 }
 
 /// `seal` has nothing behind it.
-fn seal(fields: Split<'_, '_>) -> Option<Call>
+fn seal(fields: Split<'_>) -> Option<Call>
     ensures { result ≡ seal_call fields.entry }
 {
     let mut fields = fields;

@@ -13,7 +13,7 @@ use table::{Slot, TextPlace};
 pub fn slot(word: &[u8]) -> Option<Slot>
     ensures { result ≡ slot_of word.now }
 {
-    let (kind, fields) = split_first(word, b":");
+    let (kind, fields) = split_first(word, b':');
     match kind {
         b"G" => {
             let [distance, delimiter, whole, opening, closing] = numbers::<5>(fields)?;

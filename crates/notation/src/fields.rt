@@ -4,11 +4,11 @@ ghost use Rattle.notation.specs.Entries.{character_of, placed_of, marked_of};
 ghost use Rattle.notation.specs.Numerals.{numbers_in};
 
 use crate::numerals::numbers;
-use bstr::Split;
+use crate::parts::Split;
 use table::TextPlace;
 
 /// The place and the stamp of a name or a literal.
-pub(crate) fn placed(fields: Split<'_, '_>) -> Option<(TextPlace, u32)>
+pub(crate) fn placed(fields: Split<'_>) -> Option<(TextPlace, u32)>
     ensures { result ≡ placed_of (numbers_in 4 fields.entry) }
 {
     let [text, offset, length, stamp] = numbers::<4>(fields)?;
@@ -21,7 +21,7 @@ pub(crate) fn placed(fields: Split<'_, '_>) -> Option<(TextPlace, u32)>
 }
 
 /// The character, the spacing and the stamp of a mark.
-pub(crate) fn marked(fields: Split<'_, '_>) -> Option<(char, u32, u32)>
+pub(crate) fn marked(fields: Split<'_>) -> Option<(char, u32, u32)>
     ensures { result ≡ marked_of (numbers_in 3 fields.entry) }
 {
     let [code, spacing, stamp] = numbers::<3>(fields)?;

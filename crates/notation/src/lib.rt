@@ -11,5 +11,5 @@ mod tokens;
 pub use calls::call;
 pub use entries::{slot, write_slot};
 pub use numerals::{number, numbers};
-pub use parts::{first_part, split_first};
+pub use parts::{Split, first_part, split_first};
 pub use tokens::{SheetToken, token};

@@ -2,7 +2,7 @@
 ghost use Rattle.std.specs.Prelude.{◌≡◌, ◌+◌, ◌-◌, ◌*◌, if◌then◌else◌, None};
 ghost use Rattle.notation.specs.Numerals.{is_digit, fits, number_of, numbers_in};
 
-use bstr::Split;
+use crate::parts::Split;
 
 /// The number that a text writes in decimal digits. There is none if it is empty, if a byte is no digit, or if the number
 /// does not fit. Zeros may lead.
@@ -29,7 +29,7 @@ fn with_digit(value: u32, byte: u8) -> Option<u32>
 }
 
 /// Exactly `N` numbers, one in each part.
-pub fn numbers<const N: usize>(parts: Split<'_, '_>) -> Option<[u32; N]>
+pub fn numbers<const N: usize>(parts: Split<'_>) -> Option<[u32; N]>
     ensures { result ≡ numbers_in N parts.entry }
 {
     let mut parts = parts;

@@ -1,6 +1,5 @@
 -- The entries of a frame, by place.
-use Rattle.std.proofs.Common.{◌≡◌, ℕ, zero, suc, ◌+◌, ◌*◌, ◌<◌, ◌≤◌, List, [], ◌∷◌, map, length, get_or, drop, Option, sym, ap, ◌∙◌, arith}
-use Rattle.std.specs.Int.{from_le_bytes, w16}
+use Rattle.std.proofs.Common.{◌≡◌, ℕ, zero, suc, ◌+◌, ◌*◌, ◌<◌, ◌≤◌, List, map, length, get_or, drop, Option, sym, ap, ◌∙◌, arith}
 use Rattle.std.specs.List.{range_with_len}
 use Rattle.std.specs.Simd.{first_chunks}
 use Rattle.std.proofs.lemmas.List.FromFn.{length-map-range_with_len}
@@ -28,7 +27,7 @@ pub none_past : (bs : List ℕ) (k n : ℕ) → n ≡ entry_count bs → n ≤ k
 none_past bs k n all past = let l = length_listed bs in sym (at_past (listed bs) k (omega arith))
 
 -- What is read from the three bytes at a place stands for the entry there.
-pub slot_is : (bs : List ℕ) (k value : ℕ) (ts : List (List ℕ)) (t d : List ℕ) (s : Option Slot) → ts ≡ first_chunks 3 (entry_count bs) (drop 5 bs) → k < entry_count bs → t ≡ get_or ts k d → value ≡ from_le_bytes w16 (get_or t 1 0 ∷ get_or t 2 0 ∷ []) → found bs k s ≡ meant bs k (get_or t 0 0) value → found bs k s ≡ at (listed bs) k
+pub slot_is : (bs : List ℕ) (k value : ℕ) (ts : List (List ℕ)) (t d : List ℕ) (s : Option Slot) → ts ≡ first_chunks 3 (entry_count bs) (drop 5 bs) → k < entry_count bs → t ≡ get_or ts k d → value ≡ get_or t 1 0 + 256 * get_or t 2 0 → found bs k s ≡ meant bs k (get_or t 0 0) value → found bs k s ≡ at (listed bs) k
 slot_is bs k value ts t d s all l is number means =
     let r = triple_at bs 5 (entry_count bs) k ts t d all l is in
     let p : 5 + 3 * k + 1 ≡ 6 + 3 * k = omega arith in

@@ -1,6 +1,5 @@
 -- The pairs of a frame, one after another.
-use Rattle.std.proofs.Common.{◌≡◌, ℕ, zero, suc, ◌+◌, ◌-◌, ◌*◌, ◌<◌, ◌≤◌, true, false, cond, eqb, ltb, leb, List, [], ◌∷◌, length, get_or, take, drop, sym, ap, ◌∙◌, ⊎_elim, add-one, arith}
-use Rattle.std.specs.Int.{from_le_bytes, w16}
+use Rattle.std.proofs.Common.{◌≡◌, ℕ, zero, suc, ◌+◌, ◌-◌, ◌*◌, ◌<◌, ◌≤◌, true, false, cond, eqb, ltb, leb, List, [], length, get_or, take, drop, sym, ap, ◌∙◌, ⊎_elim, add-one, arith}
 use Rattle.std.specs.Simd.{first_chunks}
 use Rattle.std.proofs.lemmas.Bool.Decides.{nat_tests}
 use Rattle.std.proofs.lemmas.Bool.{and_from, and_left, and_right, and_parts, both_ways, cases_lt, cases_Bool, leb-true}
@@ -12,7 +11,7 @@ pub record IsRead (bs : List ℕ) (n off long : ℕ) : Type 0 where
   pub offset_is : off ≡ offset bs n
   pub long_is : long ≡ len bs n
 
-pub is_read : (bs : List ℕ) (n : ℕ) (ts : List (List ℕ)) (t d : List ℕ) (off : ℕ) → ts ≡ first_chunks 3 (pair_count bs) (drop (pairs_from bs) bs) → n < pair_count bs → t ≡ get_or ts n d → off ≡ from_le_bytes w16 (get_or t 0 0 ∷ get_or t 1 0 ∷ []) → IsRead bs n off (get_or t 2 0)
+pub is_read : (bs : List ℕ) (n : ℕ) (ts : List (List ℕ)) (t d : List ℕ) (off : ℕ) → ts ≡ first_chunks 3 (pair_count bs) (drop (pairs_from bs) bs) → n < pair_count bs → t ≡ get_or ts n d → off ≡ get_or t 0 0 + 256 * get_or t 1 0 → IsRead bs n off (get_or t 2 0)
 is_read bs n ts t d off all l is number =
     let r = triple_at bs (pairs_from bs) (pair_count bs) n ts t d all l is in
     record { offset_is = word_read bs (pairs_from bs + 3 * n) _ _ off number r.first r.second; long_is = r.third }

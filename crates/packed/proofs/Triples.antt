@@ -1,7 +1,6 @@
 -- Three bytes at a time.
-use Rattle.std.proofs.Common.{◌≡◌, ℕ, zero, suc, ◌+◌, ◌-◌, ◌*◌, ◌/◌, ◌<◌, ◌≤◌, List, [], ◌∷◌, length, get_or, take, drop, refl, ap, ◌∙◌, arith, length-take-le}
+use Rattle.std.proofs.Common.{◌≡◌, ℕ, zero, suc, ◌+◌, ◌-◌, ◌*◌, ◌/◌, ◌<◌, ◌≤◌, List, ◌∷◌, length, get_or, take, drop, refl, ap, ◌∙◌, arith, length-take-le}
 use Rattle.std.proofs.lemmas.List.{take-take, drop-take, drop-drop, get_or-take, get_or-drop}
-use Rattle.std.specs.Int.{from_le_bytes, w16}
 use Rattle.std.specs.Simd.{first_chunks}
 use Rattle.packed.specs.Format.{word}
 
@@ -53,5 +52,5 @@ triple_at bs from n k ts t d all l is =
     }
 
 -- The number in two bytes that were read.
-pub word_read : (bs : List ℕ) (p low high n : ℕ) → n ≡ from_le_bytes w16 (low ∷ high ∷ []) → low ≡ get_or bs p 0 → high ≡ get_or bs (p + 1) 0 → n ≡ word bs p
+pub word_read : (bs : List ℕ) (p low high n : ℕ) → n ≡ low + 256 * high → low ≡ get_or bs p 0 → high ≡ get_or bs (p + 1) 0 → n ≡ word bs p
 word_read bs p low high n e l h = omega arith

@@ -3,12 +3,19 @@ ghost use Rattle.std.specs.Prelude.{◌≡◌, ◌+◌, ◌*◌, ◌<◌, ◌≤
 ghost use Rattle.std.specs.Simd.{first_chunks};
 ghost use Rattle.packed.specs.Format.{word, entry_count, pair_count, pairs_from, text_from, good_pairs, framed};
 
+/// A 16-bit number from its two bytes: every number of the format is read here.
+pub(crate) fn word_of(low: u8, high: u8) -> u16
+    ensures { result ≡ low + 256 * high }
+{
+    u16::from_le_bytes([low, high])
+}
+
 /// The 16-bit number at a byte.
 pub(crate) fn read_word(bytes: &[u8], at: usize) -> u16
     requires { at + 1 < length bytes.now }
     ensures { result ≡ word bytes.now at }
 {
-    u16::from_le_bytes([bytes[at], bytes[at + 1]])
+    word_of(bytes[at], bytes[at + 1])
 }
 
 /// Where the pairs begin.
@@ -65,7 +72,7 @@ fn are_pairs_good(bytes: &[u8]) -> bool
     let text = start_of_text(bytes);
     let mut free = 0;
     for &[low, high, length] in pairs(bytes) {
-        let offset = usize::from(u16::from_le_bytes([low, high]));
+        let offset = usize::from(word_of(low, high));
         let end = offset + usize::from(length);
         if end == offset || offset < free || text + end > bytes.len() {
             return false;

@@ -5,7 +5,7 @@ ghost use Rattle.sheet.specs.declared.fault.StoreFault.TheVariants.{Frame};
 ghost use Rattle.packed.specs.Format.{entry_count, pair_text, listed, framed};
 ghost use Rattle.packed.specs.Slots.{found};
 
-use crate::frame::{entries, is_framed, pairs, read_word, start_of_text};
+use crate::frame::{entries, is_framed, pairs, read_word, start_of_text, word_of};
 use crate::slot::Slot;
 use crate::stamp::Stamp;
 use rules::{Entries, Look, is_legal_text};
@@ -44,7 +44,7 @@ impl Framed {
         ensures { found self.now.bytes.items at result ≡ entry_at (listed self.now.bytes.items) at }
     {
         let &[kind, low, high] = entries(self.bytes.as_slice()).get(at)?;
-        Slot::of(kind, u16::from_le_bytes([low, high]))
+        Slot::of(kind, word_of(low, high))
     }
 
     /// The text of a pair; an empty one if there is no such pair.
@@ -54,7 +54,7 @@ impl Framed {
         let bytes = self.bytes.as_slice();
         match pairs(bytes).get(usize::from(pair)) {
             Some(&[low, high, length]) => {
-                let from = start_of_text(bytes) + usize::from(u16::from_le_bytes([low, high]));
+                let from = start_of_text(bytes) + usize::from(word_of(low, high));
                 &bytes[from..from + usize::from(length)]
             }
             None => &[],

@@ -6,7 +6,7 @@ ghost use Rattle.report.specs.Spelling.{brackets_of, word_said, entry_said};
 ghost use Rattle.report.specs.Writing.{gap_behind};
 
 use crate::view::{View, Word};
-use sheet::{Delimiter, Spacing, Store, Tree};
+use sheet::{Delimiter, Entry, Spacing, Store};
 
 /// The gap behind a mark: none if it is joint; a `;` ends a line.
 fn gap_after(character: char, spacing: Spacing) -> Option<char>
@@ -36,22 +36,21 @@ fn brackets(view: View, delimiter: Delimiter) -> Option<(char, char)>
 pub(crate) fn word_at<S: Store>(store: &S, at: usize, view: View) -> Option<Word<'_>>
     ensures { option_map word_said result ≡ entry_said view (entries (S.Store.sheet store.now)) at (entry_at (entries (S.Store.sheet store.now)) at) }
 {
-    match store.token(at) {
+    match store.entry(at)? {
         // Two arms of one text: the borrow checker does not cover an or-pattern here.
-        Some(Tree::Name(text)) => Some(Word::Text(text)),
-        Some(Tree::Literal(text)) => Some(Word::Text(text)),
-        Some(Tree::Mark(character, spacing)) => {
-            Some(Word::Sign(character, gap_after(character, spacing)))
-        }
-        Some(Tree::Group(delimiter)) => {
+        Entry::Name { text, .. } => Some(Word::Text(text)),
+        Entry::Literal { text, .. } => Some(Word::Text(text)),
+        Entry::Mark {
+            character,
+            spacing,
+            ..
+        } => Some(Word::Sign(character, gap_after(character, spacing))),
+        Entry::Group { delimiter, .. } => {
             let (opening, _) = brackets(view, delimiter)?;
             Some(Word::Sign(opening, Some(' ')))
         }
-        None => {
-            let distance = store.distance(at);
-            if distance == 0 {
-                return None;
-            }
+        Entry::End { distance: 0 } => None,
+        Entry::End { distance } => {
             let delimiter = store.delimiter(at.saturating_sub(distance));
             let (_, closing) = brackets(view, delimiter)?;
             Some(Word::Sign(closing, Some(' ')))

@@ -15,6 +15,8 @@ impl<'a, S: Store> Store for &'a S {
         (**self).count()
     }
 
+    // Inlined, so that a question works out no more of an entry than it answers.
+    #[inline(always)]
     fn entry(&self, at: usize) -> Option<Entry<'_, S::Stamp>> {
         (**self).entry(at)
     }

@@ -4,12 +4,12 @@ ghost use Rattle.spelled.specs.Spelling.{SpellsOut, OneSpelling};
 use crate::fault::SpelledFault;
 use crate::reading::{Reading, read};
 use crate::whole::filled;
-use bstr::Split;
+use notation::Split;
 use std::alloc::Global;
 use table::Table;
 
 /// The sheet that words spell. Without words it is the empty sheet.
-pub fn spelled(heap: Global, words: Split<'_, '_>) -> Result<Table, SpelledFault>
+pub fn spelled(heap: Global, words: Split<'_>) -> Result<Table, SpelledFault>
     ensures sheet { SpellsOut words.entry result }
     ensures no_other { OneSpelling }
 {

@@ -5,9 +5,8 @@ ghost use Rattle.notation.specs.Tokens.{piece};
 ghost use Rattle.spelled.specs.Reading.{stack, Placed, Closed, Stepped, Reads};
 
 use crate::fault::SpelledFault;
-use bstr::Split;
 use filling::Call;
-use notation::{SheetToken, token};
+use notation::{SheetToken, Split, token};
 use rules::MOST;
 use sheet::Delimiter;
 use std::alloc::Global;
@@ -107,7 +106,7 @@ impl Reader {
 }
 
 /// Reads words from the first to the last. Without any there is nothing behind the first word of the line.
-pub(crate) fn read(heap: Global, words: Split<'_, '_>) -> Result<Reading, SpelledFault>
+pub(crate) fn read(heap: Global, words: Split<'_>) -> Result<Reading, SpelledFault>
     ensures { Reads words.entry result }
 {
     let mut calls = Vec::new(heap);

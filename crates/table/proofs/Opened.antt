@@ -1,7 +1,7 @@
 -- An opened table: its flat form is the list of its entries.
-use Rattle.std.proofs.Common.{◌≡◌, ℕ, List, length, Some, None, vec_items, Option, sym, ap, ◌∙◌, subst}
+use Rattle.std.proofs.Common.{◌≡◌, ℕ, List, Some, None, vec_items, Option, sym, subst}
 use Rattle.std.proofs.lemmas.Bool.{leb-true}
-use Rattle.sheet.specs.Entries.{Entry, entries, at}
+use Rattle.sheet.specs.Entries.{Entry, at}
 use Rattle.sheet.specs.Limits.{LegalFields}
 use Rattle.rules.specs.Verdicts.{OneLawfulSheet}
 use Rattle.rules.proofs.Sheets

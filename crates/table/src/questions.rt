@@ -16,6 +16,8 @@ impl Store for Table {
         self.parts.count()
     }
 
+    // Inlined, so that a question works out no more of an entry than it answers.
+    #[inline(always)]
     fn entry(&self, at: usize) -> Option<Entry<'_, u32>> {
         Some(match self.slot(at)? {
             Slot::Group {

@@ -2,6 +2,7 @@
 //! lists of calls.
 ghost use Rattle.std.specs.Prelude.{◌≡◌, ◌≤◌};
 ghost use Rattle.filling.specs.Filling.{Fills};
+ghost use Rattle.filling.specs.Progress.{Bounded};
 ghost use Rattle.filling.specs.declared.call.Call.TheVariants.{Name as name_call, Mark as mark_call, Literal as literal_call, Open as open_call, Close as close_call, Seal as seal_call};
 
 use crate::call::Call;
@@ -14,6 +15,7 @@ impl Filling {
     pub fn written(&self) -> usize
         ensures is { result ≡ self.now.written }
         ensures few { result ≤ 65535 }
+        ensures bounded { Bounded self.now }
     {
         self.written
     }

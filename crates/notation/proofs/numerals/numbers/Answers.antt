@@ -17,5 +17,5 @@ loop-place-preserved g c =
 pub returns-in-Some : goal.returns-in-Some
 returns-in-Some g c = too_many g.row.N c.loop-place.place-index _ _ _ _ _ (omega arith) c.in-Some.ensures.steps c.loop-place.invariant.0
 
-pub returns : goal.returns
-returns g c = all_found g.row.N c.loop-place.place-index _ _ _ (omega arith) c.loop-place.invariant.1 c.in-None.ensures.steps.0 c.loop-place.invariant.0
+pub returns-in-None : goal.returns-in-None
+returns-in-None g c = all_found g.row.N c.loop-place.place-index _ _ _ (omega arith) c.loop-place.invariant.1 c.in-None.ensures.steps.0 c.loop-place.invariant.0

@@ -19,4 +19,4 @@ returns c =
     let all = c.entries.ensures.is ∙ ap (λ xs. first_chunks 3 (entry_count xs) (drop 5 xs)) same in
     let there = c.in_ok-kind.ensures.lookup in
     let within : c.args.at < entry_count bs = omega (arith, there.3.0, c.entries.ensures.len, ap entry_count same) in
-    slot_is bs c.args.at c.from_le_bytes.result c.entries.result.now _ _ c.of.result all within there.1 c.from_le_bytes.ensures (c.of.ensures bs c.args.at)
+    slot_is bs c.args.at c.word_of.result c.entries.result.now _ _ c.of.result all within there.1 c.word_of.ensures (c.of.ensures bs c.args.at)

@@ -11,7 +11,7 @@ slice_bounds-result-end c =
     let all = c.pairs.ensures.is ∙ ap (λ xs. first_chunks 3 (pair_count xs) (drop (pairs_from xs) xs)) same in
     let there = c.in-Some.ensures.lookup in
     let within : c.from.result < pair_count bs = omega (arith, there.3.0, c.pairs.ensures.len, ap pair_count same) in
-    let r = is_read bs c.from.result c.pairs.result.now _ _ c.from_le_bytes.result all within there.1 c.from_le_bytes.ensures in
+    let r = is_read bs c.from.result c.pairs.result.now _ _ c.word_of.result all within there.1 c.word_of.ensures in
     omega (arith, text_within bs c.from.result c.args.self.now.whole within, r.offset_is, r.long_is, ap text_from same, ap length same)
 
 pub returns-in-Some : goal.returns-in-Some
@@ -21,7 +21,7 @@ returns-in-Some c =
     let all = c.pairs.ensures.is ∙ ap (λ xs. first_chunks 3 (pair_count xs) (drop (pairs_from xs) xs)) same in
     let there = c.in-Some.ensures.lookup in
     let within : c.from.result < pair_count bs = omega (arith, there.3.0, c.pairs.ensures.len, ap pair_count same) in
-    let r = is_read bs c.from.result c.pairs.result.now _ _ c.from_le_bytes.result all within there.1 c.from_le_bytes.ensures in
+    let r = is_read bs c.from.result c.pairs.result.now _ _ c.word_of.result all within there.1 c.word_of.ensures in
     let text = c.start_of_text.ensures.is ∙ ap text_from same in
     let from = c.start_of_text.result + c.from-in-Some.result in
     ap (λ xs. take (from + c.from-in-Some-2.result - from) (drop from xs)) same
