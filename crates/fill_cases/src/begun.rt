@@ -10,9 +10,9 @@ use crate::opened::{open_packed, open_table};
 use crate::verb::{Verb, asked};
 use crate::work::Work;
 use filling::Filling;
-use lines::{LineFault, from_hex, parts_of_filling, parts_of_slots};
+use lines::{LineFault, from_hex, parts_of_filling_in, parts_of_slots_in};
 use notation::{Split, first_part};
-use spelled::{SpelledFault, spelled};
+use spelled::{SpelledFault, spelled_in};
 use std::alloc::{AllocError, Global};
 
 /// The first line of a case makes its store.
@@ -37,10 +37,10 @@ fn begin(heap: Global, question: &[u8]) -> Result<(Case, Answer), LineFault>
             let bytes = from_hex(heap, rest.ok_or(LineFault::Unknown)?)?;
             Ok(open_packed(bytes))
         }
-        Verb::Slots => Ok(open_table(parts_of_slots(heap, words)?)),
+        Verb::Slots => Ok(open_table(parts_of_slots_in(heap, words)?)),
         Verb::Sheet => sheet(heap, words),
         Verb::Filling => {
-            let parts = parts_of_filling(heap, words)?;
+            let parts = parts_of_filling_in(heap, words)?;
             let filling = Filling::new();
             Ok((Case::Filling(Work { filling, parts }), Answer::Silent))
         }
@@ -51,7 +51,7 @@ fn begin(heap: Global, question: &[u8]) -> Result<(Case, Answer), LineFault>
 fn sheet(heap: Global, words: Split<'_>) -> Result<(Case, Answer), LineFault>
     ensures { BeginsSheetOrNot words.entry result }
 {
-    match spelled(heap, words) {
+    match spelled_in(heap, words) {
         Ok(store) => Ok((Case::Table(Opened::Whole(store)), Answer::Silent)),
         Err(SpelledFault::NotASheet) => Err(LineFault::Unknown),
         Err(SpelledFault::Lawless) => Ok((Case::Closed, Answer::Silent)),

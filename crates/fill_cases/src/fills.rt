@@ -11,7 +11,7 @@ use crate::opened::open_table;
 use crate::verb::{Verb, asked};
 use crate::work::Work;
 use filling::Call;
-use notation::{Split, call, numbers};
+use notation::{Split, call, numbers_in};
 use table::Texts;
 
 /// What a question asks of a filling.
@@ -27,7 +27,7 @@ pub enum FillQuestion {
 pub(crate) fn one_number(rest: Split<'_>) -> Option<u32>
     ensures { result ≡ only (numbers_in 1 rest.entry) }
 {
-    let [number] = numbers::<1>(rest)?;
+    let [number] = numbers_in::<1, _>(rest)?;
     Some(number)
 }
 

@@ -3,7 +3,7 @@ ghost use Rattle.std.specs.Prelude.{◌≡◌};
 ghost use Rattle.notation.specs.Parts.{front, behind, parts_left};
 ghost use Rattle.fill_cases.specs.Verbs.{verb_of};
 
-use notation::{Split, split_first};
+use notation::{Split, split_first_by};
 
 /// What a question asks for, by its first word.
 #[derive(Clone, Copy, PartialEq, Eq, Debug)]
@@ -44,6 +44,6 @@ pub(crate) fn asked(question: &[u8]) -> (Verb, Split<'_>)
     ensures verb { result.0 ≡ verb_of (front 32 question.now) }
     ensures rest { result.1 ≡ parts_left 32 (behind 32 question.now) }
 {
-    let (word, rest) = split_first(question, b' ');
+    let (word, rest) = split_first_by(question, b' ');
     (Verb::from(word), rest)
 }

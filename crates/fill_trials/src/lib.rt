@@ -6,3 +6,5 @@
 mod filled;
 #[cfg(test)]
 mod groups;
+#[cfg(test)]
+mod split_lines;

@@ -3,17 +3,26 @@ ghost use Rattle.std.specs.Prelude.{◌≡◌, ◌++◌, vec_items, OnOk};
 ghost use Rattle.lines.specs.Beginnings.{slots_of, entries_text, more_text};
 ghost use Rattle.case_text.specs.Faults.{Gives};
 
+use bstr::Split;
 use case_text::LineFault;
-use notation::{Split, slot, write_slot};
+use notation::{TextParts, slot, write_slot};
 use std::alloc::{AllocError, Global};
 use table::Slot;
 
-/// The entries that words write, one each.
-pub fn entries(heap: Global, words: Split<'_>) -> Result<Vec<Slot>, LineFault>
+/// The entries that words write, one each, where the library's `Split` made the words.
+pub fn entries(heap: Global, words: Split<'_, '_>) -> Result<Vec<Slot>, LineFault>
     ensures { Gives vec_items (slots_of words.entry) result }
 {
+    entries_in(heap, words)
+}
+
+/// The entries that words write, one each.
+pub fn entries_in<'a, P: TextParts<'a>>(heap: Global, words: P) -> Result<Vec<Slot>, LineFault>
+    ensures { Gives vec_items (slots_of (P.left words)) result }
+{
+    let mut words = words;
     let mut entries = Vec::new(heap);
-    for word in words {
+    while let Some(word) = words.next_part() {
         let entry = slot(word).ok_or(LineFault::Unknown)?;
         entries.push(entry)?;
     }

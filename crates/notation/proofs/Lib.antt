@@ -1,4 +1,5 @@
 pub mod Values
 pub mod Cuts
+pub mod Splits
 pub mod Counts
 pub mod Backs

@@ -3,15 +3,15 @@ ghost use Rattle.std.specs.Prelude.{◌≡◌};
 ghost use Rattle.notation.specs.Calls.{seal_call, call_of};
 
 use crate::fields::{marked, placed};
-use crate::numerals::numbers;
-use crate::parts::{Split, split_first};
+use crate::numerals::numbers_in;
+use crate::parts::{Split, split_first_by};
 use filling::Call;
 
 /// The fill call that a question writes: its name, and its numbers behind single blanks.
 pub fn call(question: &[u8]) -> Option<Call>
     ensures { result ≡ call_of question.now }
 {
-    let (verb, fields) = split_first(question, b' ');
+    let (verb, fields) = split_first_by(question, b' ');
     match verb {
         b"name" => {
             let (place, stamp) = placed(fields)?;
@@ -30,7 +30,7 @@ pub fn call(question: &[u8]) -> Option<Call>
             Some(Call::Literal { place, stamp })
         }
         b"open" => {
-            let [delimiter, whole, opening] = numbers::<3>(fields)?;
+            let [delimiter, whole, opening] = numbers_in::<3, _>(fields)?;
             Some(Call::Open {
                 delimiter,
                 whole,
@@ -38,7 +38,7 @@ pub fn call(question: &[u8]) -> Option<Call>
             })
         }
         b"close" => {
-            let [closing] = numbers::<1>(fields)?;
+            let [closing] = numbers_in::<1, _>(fields)?;
             Some(Call::Close { closing })
         }
         b"seal" => seal(fields),

@@ -3,8 +3,8 @@ ghost use Rattle.std.specs.Prelude.{◌≡◌, ◌++◌, Some, OnOk};
 ghost use Rattle.notation.specs.Entries.{slot_of, place_text, slot_text, ReadsBack};
 
 use crate::fields::{marked, placed};
-use crate::numerals::numbers;
-use crate::parts::split_first;
+use crate::numerals::numbers_in;
+use crate::parts::split_first_by;
 use std::alloc::{AllocError, Global};
 use std::fmt;
 use table::{Slot, TextPlace};
@@ -13,10 +13,10 @@ use table::{Slot, TextPlace};
 pub fn slot(word: &[u8]) -> Option<Slot>
     ensures { result ≡ slot_of word.now }
 {
-    let (kind, fields) = split_first(word, b':');
+    let (kind, fields) = split_first_by(word, b':');
     match kind {
         b"G" => {
-            let [distance, delimiter, whole, opening, closing] = numbers::<5>(fields)?;
+            let [distance, delimiter, whole, opening, closing] = numbers_in::<5, _>(fields)?;
             Some(Slot::Group {
                 distance,
                 delimiter,
@@ -42,7 +42,7 @@ pub fn slot(word: &[u8]) -> Option<Slot>
             Some(Slot::Literal { place, stamp })
         }
         b"E" => {
-            let [distance] = numbers::<1>(fields)?;
+            let [distance] = numbers_in::<1, _>(fields)?;
             Some(Slot::End { distance })
         }
         _ => None,

@@ -3,7 +3,7 @@ ghost use Rattle.std.specs.Prelude.{◌≡◌};
 ghost use Rattle.notation.specs.Entries.{character_of, placed_of, marked_of};
 ghost use Rattle.notation.specs.Numerals.{numbers_in};
 
-use crate::numerals::numbers;
+use crate::numerals::numbers_in;
 use crate::parts::Split;
 use table::TextPlace;
 
@@ -11,7 +11,7 @@ use table::TextPlace;
 pub(crate) fn placed(fields: Split<'_>) -> Option<(TextPlace, u32)>
     ensures { result ≡ placed_of (numbers_in 4 fields.entry) }
 {
-    let [text, offset, length, stamp] = numbers::<4>(fields)?;
+    let [text, offset, length, stamp] = numbers_in::<4, _>(fields)?;
     let place = TextPlace {
         text,
         offset,
@@ -24,7 +24,7 @@ pub(crate) fn placed(fields: Split<'_>) -> Option<(TextPlace, u32)>
 pub(crate) fn marked(fields: Split<'_>) -> Option<(char, u32, u32)>
     ensures { result ≡ marked_of (numbers_in 3 fields.entry) }
 {
-    let [code, spacing, stamp] = numbers::<3>(fields)?;
+    let [code, spacing, stamp] = numbers_in::<3, _>(fields)?;
     Some((character(code), spacing, stamp))
 }
 

@@ -2,7 +2,8 @@
 ghost use Rattle.std.specs.Prelude.{◌≡◌, ◌+◌, ◌-◌, ◌*◌, if◌then◌else◌, None};
 ghost use Rattle.notation.specs.Numerals.{is_digit, fits, number_of, numbers_in};
 
-use crate::parts::Split;
+use crate::text_parts::TextParts;
+use bstr::Split;
 
 /// The number that a text writes in decimal digits. There is none if it is empty, if a byte is no digit, or if the number
 /// does not fit. Zeros may lead.
@@ -28,16 +29,23 @@ fn with_digit(value: u32, byte: u8) -> Option<u32>
     value.checked_mul(10)?.checked_add(digit)
 }
 
-/// Exactly `N` numbers, one in each part.
-pub fn numbers<const N: usize>(parts: Split<'_>) -> Option<[u32; N]>
+/// Exactly `N` numbers, one in each part, where the library's `Split` made the parts.
+pub fn numbers<const N: usize>(parts: Split<'_, '_>) -> Option<[u32; N]>
     ensures { result ≡ numbers_in N parts.entry }
+{
+    numbers_in(parts)
+}
+
+/// Exactly `N` numbers, one in each part.
+pub fn numbers_in<'a, const N: usize, P: TextParts<'a>>(parts: P) -> Option<[u32; N]>
+    ensures { result ≡ numbers_in N (P.left parts) }
 {
     let mut parts = parts;
     let mut found = [0; N];
     for place in &mut found {
-        *place = number(parts.next()?)?;
+        *place = number(parts.next_part()?)?;
     }
-    match parts.next() {
+    match parts.next_part() {
         Some(_) => None,
         None => Some(found),
     }

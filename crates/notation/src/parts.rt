@@ -1,8 +1,10 @@
 //! Texts whose parts stand between separators.
-ghost use Rattle.std.specs.Prelude.{◌≡◌, ◌<◌, ◌∷◌, length, IfSome};
+ghost use Rattle.std.specs.Prelude.{◌≡◌, ◌<◌, ◌∷◌, length, slice_index, IfSome};
 ghost use Rattle.std.specs.Option.{option_map};
 ghost use Rattle.notation.specs.Parts.{front, behind, parts, parts_left, Cut};
 
+use crate::text_parts::TextParts;
+use bstr::ByteSlice;
 use memchr::memchr;
 use std::alloc::AllocError;
 use std::marker::Model;
@@ -70,6 +72,15 @@ impl<'a> Iterator for Split<'a> {
     }
 }
 
+impl<'a> TextParts<'a> for Split<'a> {
+    ghost left = { λ parts. parts };
+
+    #[inline]
+    fn next_part(&mut self) -> Option<&'a [u8]> {
+        self.next()
+    }
+}
+
 /// What stands before the first separator of a text, and what stands behind that separator if there is one.
 pub fn first_part(text: &[u8], separator: u8) -> (&[u8], Option<&[u8]>)
     ensures before { result.0.now ≡ front separator text.now }
@@ -85,11 +96,27 @@ pub fn first_part(text: &[u8], separator: u8) -> (&[u8], Option<&[u8]>)
 }
 
 /// The first part of a text, which there always is, and the parts behind it.
-pub fn split_first(text: &[u8], separator: u8) -> (&[u8], Split<'_>)
+pub fn split_first_by(text: &[u8], separator: u8) -> (&[u8], Split<'_>)
     ensures first { result.0.now ≡ front separator text.now }
     ensures others { result.1 ≡ parts_left separator (behind separator text.now) }
     ensures all { parts separator text.now ≡ result.0.now ∷ result.1 }
 {
     let (first, rest) = first_part(text, separator);
     (first, Split::of(rest, separator))
+}
+
+/// The same, where the library splits.
+pub fn split_first<'a, 's>(
+    text: &'a [u8],
+    separator: &'s [u8; 1],
+) -> (&'a [u8], bstr::Split<'a, 's>)
+    ensures first { result.0.now ≡ front (slice_index separator.now 0) text.now }
+    ensures others { result.1 ≡ parts_left (slice_index separator.now 0) (behind (slice_index separator.now 0) text.now) }
+    ensures all { parts (slice_index separator.now 0) text.now ≡ result.0.now ∷ result.1 }
+{
+    let mut parts = text.split_str(separator.as_slice());
+    match parts.next() {
+        Some(first) => (first, parts),
+        None => unreachable!(),
+    }
 }

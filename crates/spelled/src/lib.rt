@@ -7,5 +7,5 @@ mod reading;
 mod whole;
 
 pub use fault::{SpelledFault, WholeFault};
-pub use line::spelled;
+pub use line::{spelled, spelled_in};
 pub use whole::filled;

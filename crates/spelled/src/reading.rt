@@ -6,7 +6,7 @@ ghost use Rattle.spelled.specs.Reading.{stack, Placed, Closed, Stepped, Reads};
 
 use crate::fault::SpelledFault;
 use filling::Call;
-use notation::{SheetToken, Split, token};
+use notation::{SheetToken, TextParts, token};
 use rules::MOST;
 use sheet::Delimiter;
 use std::alloc::Global;
@@ -106,15 +106,16 @@ impl Reader {
 }
 
 /// Reads words from the first to the last. Without any there is nothing behind the first word of the line.
-pub(crate) fn read(heap: Global, words: Split<'_>) -> Result<Reading, SpelledFault>
-    ensures { Reads words.entry result }
+pub(crate) fn read<'a, P: TextParts<'a>>(heap: Global, words: P) -> Result<Reading, SpelledFault>
+    ensures { Reads (P.left words) result }
 {
+    let mut words = words;
     let mut calls = Vec::new(heap);
     let mut reader = Reader {
         text: Vec::new(heap),
         groups: Vec::new(heap),
     };
-    for word in words {
+    while let Some(word) = words.next_part() {
         // Each word is an entry, and the last End is none of them.
         if calls.len() >= MOST - 1 {
             return Err(SpelledFault::Lawless);

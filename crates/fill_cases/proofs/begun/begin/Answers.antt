@@ -17,11 +17,11 @@ returns-in_ok-bytes-in-Packed c =
     let body = subst (λ (o : Option (List ℕ)). BeginsPacked o r.0 r.1) (sym said) (c.in_ok-bytes-in-Packed.bytes, refl, c.open_packed.ensures) in
     subst (λ (v : Verb). Begins v (behind 32 c.args.question.now) r.0 r.1) (sym c.in-Packed.is ∙ c.asked-verb.ensures.verb) body
 
-pub returns-in_ok-parts_of_slots-in-Slots : goal.returns-in_ok-parts_of_slots-in-Slots
-returns-in_ok-parts_of_slots-in-Slots c =
+pub returns-in_ok-parts_of_slots_in-in-Slots : goal.returns-in_ok-parts_of_slots_in-in-Slots
+returns-in_ok-parts_of_slots_in-in-Slots c =
     let r = c.open_table.result in
-    let said = ap slots_given (sym c.asked-verb.ensures.rest) ∙ c.in_ok-parts_of_slots-in-Slots.ensures in
-    let body = subst (λ (o : Option Given). BeginsTable o r.0 r.1) (sym said) (c.in_ok-parts_of_slots-in-Slots.field-0, refl, c.open_table.ensures) in
+    let said = ap slots_given (sym c.asked-verb.ensures.rest) ∙ c.in_ok-parts_of_slots_in-in-Slots.ensures in
+    let body = subst (λ (o : Option Given). BeginsTable o r.0 r.1) (sym said) (c.in_ok-parts_of_slots_in-in-Slots.field-0, refl, c.open_table.ensures) in
     subst (λ (v : Verb). Begins v (behind 32 c.args.question.now) r.0 r.1) (sym c.in-Slots.is ∙ c.asked-verb.ensures.verb) body
 
 pub returns-in_ok-parts-in-Filling : goal.returns-in_ok-parts-in-Filling

@@ -5,6 +5,6 @@ use Rattle.notation.proofs.entries.slot.Goals as goal
 
 pub returns-in_ok-distance-in-G : goal.returns-in_ok-distance-in-G
 returns-in_ok-distance-in-G c =
-    let s = c.split_first-fields in
+    let s = c.split_first_by-fields in
     let e : s.result.0.now ≡ codes "G" = search (rules, text_from_reads) in
-    ap group_of (sym c.in_ok-distance-in-G.was ∙ c.numbers.ensures) ∙ (λ i. slot_by ((sym e ∙ s.ensures.first) i) (s.ensures.others i))
+    ap group_of (sym c.in_ok-distance-in-G.was ∙ c.numbers_in.ensures) ∙ (λ i. slot_by ((sym e ∙ s.ensures.first) i) (s.ensures.others i))
